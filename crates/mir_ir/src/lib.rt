@@ -1,0 +1,13 @@
+//! Functions of the MIR text as plain trees, and what their runs are (`specs/`).
+#![tactic(auto)]
+
+mod builtins;
+mod kinds;
+mod tree;
+
+pub use builtins::Builtin;
+pub use kinds::ValueKind;
+pub use tree::{
+    Arm, BinaryOp, Block, Callee, Constant, Function, IntTy, Local, Operand, PlaceExpr, Rvalue,
+    Statement, Terminator, Ty,
+};
