@@ -1,5 +1,5 @@
 -- Which function of the `kani` crate a callee is, by its canonical path.
-use Rattle.std.specs.Prelude.{Bool, ◌&&◌, is_none, if◌then◌else◌, Option, Some, None, option_map, option_and_then, codes, nat_eq}
+use Rattle.std.specs.Prelude.{Bool, if◌then◌else◌, Option, Some, None, option_map, codes, nat_eq}
 use Rattle.std.specs.List.{starts_with}
 use Rattle.std.specs.Str.{bytes_eq}
 use Rattle.mir_ir.specs.declared.tree.Ty.{Ty}

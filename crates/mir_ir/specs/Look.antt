@@ -1,5 +1,5 @@
 -- The locals and blocks of a function, by their numbers.
-use Rattle.std.specs.Prelude.{ℕ, ◌+◌, max, ◌==◌, List, [], ◌∷◌, Option, option_map, option_and_then, find}
+use Rattle.std.specs.Prelude.{ℕ, ◌+◌, max, ◌==◌, List, [], ◌∷◌, Option, option_and_then, find}
 use Rattle.mir_ir.specs.declared.tree.Local.{Local}
 use Rattle.mir_ir.specs.declared.tree.Block.{Block}
 use Rattle.mir_ir.specs.declared.tree.Function.{Function}

@@ -20,14 +20,14 @@ use Rattle.mir_ir.specs.declared.tree.Statement.TheVariants as statement
 use Rattle.mir_ir.specs.declared.tree.Terminator.{Terminator}
 use Rattle.mir_ir.specs.declared.tree.Terminator.TheVariants as terminator
 use Rattle.mir_ir.specs.declared.tree.Block.{Block}
-use Rattle.mir_ir.specs.declared.tree.Local.{Local}
 use Rattle.mir_ir.specs.declared.tree.Function.{Function}
+use Rattle.mir_ir.specs.declared.kinds.Choice.{Choice}
 use Rattle.mir_ir.specs.declared.kinds.ValueKind.{ValueKind}
 use Rattle.mir_ir.specs.declared.kinds.ValueKind.TheVariants as kind
 use Rattle.mir_ir.specs.declared.builtins.Builtin.{Builtin}
 use Rattle.mir_ir.specs.declared.builtins.Builtin.TheVariants as builtin
 use Rattle.mir_ir.specs.Builtins.{builtin_of}
-use Rattle.mir_ir.specs.Kinds.{is_value}
+use Rattle.mir_ir.specs.Kinds.{is_choice_of}
 use Rattle.mir_ir.specs.Look.{local_kind, block_of, locals_end}
 
 -- where a run stands, and what each local holds, by its number: a number, or nothing
@@ -50,7 +50,7 @@ pub data Stepped : Type 0 where
 pub data Outcome : Type 0 where
   Running : Outcome
   Ended : Outcome
-  Faulted : Fault → List ℕ → Outcome
+  Faulted : Fault → List Choice → Outcome
   -- a choice is wanted, and there is none, or none of its kind
   Wanting : Outcome
   Lost : Outcome
@@ -169,12 +169,12 @@ abbrev pub site_of : Configuration → Site
 site_of s = record { function = the_function; block = record { 0 = s.block }; index = s.index }
 
 -- how a run goes on behind a choice, on being the rest of it
-abbrev pub after_choice : (Configuration → List ℕ → Outcome) → Configuration → ValueKind → ℕ → ℕ → List ℕ → Outcome
+abbrev pub after_choice : (Configuration → List Choice → Outcome) → Configuration → ValueKind → ℕ → ℕ → List Choice → Outcome
 after_choice on s k destination next [] = Wanting
-after_choice on s k destination next (c ∷ cs) = if is_value k c then on (chosen s destination next c) cs else Wanting
+after_choice on s k destination next (c ∷ cs) = if is_choice_of k c then on (chosen s destination next c.number) cs else Wanting
 
 -- how a run goes on behind a step, on being the rest of it
-abbrev pub after : (Configuration → List ℕ → Outcome) → Configuration → List ℕ → Stepped → Outcome
+abbrev pub after : (Configuration → List Choice → Outcome) → Configuration → List Choice → Stepped → Outcome
 after on s choices (Goes t) = on t choices
 after on s choices Ends = Ended
 after on s choices (Faults c) = Faulted (record { site = site_of s; class = c }) choices
@@ -182,7 +182,7 @@ after on s choices (Chooses k destination next) = after_choice on s k destinatio
 after on s choices Stuck = Lost
 
 -- what n steps give when the choices are taken in order
-unfoldable pub run : Function → ℕ → Configuration → List ℕ → Outcome
+unfoldable pub run : Function → ℕ → Configuration → List Choice → Outcome
 run f zero s choices = Running
 run f (suc n) s choices = after (run f n) s choices (step f s)
 

@@ -11,6 +11,13 @@ pub enum ValueKind {
     Unit,
 }
 
+/// A choice of a run: a value of a kind, `false` and `()` being 0 and `true` 1.
+#[derive(Clone, Copy, Debug, PartialEq, Eq)]
+pub struct Choice {
+    pub kind: ValueKind,
+    pub number: u128,
+}
+
 impl Ty {
     /// The kind of value of this type, None where it is a tuple that has items.
     pub fn kind(&self) -> Option<ValueKind>

@@ -6,7 +6,7 @@ mod kinds;
 mod tree;
 
 pub use builtins::Builtin;
-pub use kinds::ValueKind;
+pub use kinds::{Choice, ValueKind};
 pub use tree::{
     Arm, BinaryOp, Block, Callee, Constant, Function, IntTy, Local, Operand, PlaceExpr, Rvalue,
     Statement, Terminator, Ty,
