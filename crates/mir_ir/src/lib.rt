@@ -3,6 +3,7 @@
 
 mod builtins;
 mod kinds;
+mod look;
 mod tree;
 
 pub use builtins::Builtin;
