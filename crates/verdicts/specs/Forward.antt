@@ -1,0 +1,31 @@
+-- What the engine relies on: jumps go to greater numbers, and blocks are short.
+use Rattle.std.specs.Prelude.{ℕ, ◌<◌, ◌≤◌, List, [], ◌∷◌, length, Option, Some, None}
+use Rattle.mir_ir.specs.declared.tree.Arm.{Arm}
+use Rattle.mir_ir.specs.declared.tree.Terminator.{Terminator}
+use Rattle.mir_ir.specs.declared.tree.Terminator.TheVariants as terminator
+use Rattle.mir_ir.specs.declared.tree.Block.{Block}
+use Rattle.vk_core.specs.declared.ids.BlockId.{BlockId}
+
+abbrev pub ArmsGoOn : ℕ → List Arm → Type 0
+ArmsGoOn n [] = Unit {0}
+ArmsGoOn n (arm ∷ arms) = (n < arm.target.0) × ArmsGoOn n arms
+
+abbrev pub NextGoesOn : ℕ → Option BlockId → Type 0
+NextGoesOn n None = Unit {0}
+NextGoesOn n (Some next) = n < next.0
+
+-- each jump from the block with the number n goes to a greater number
+abbrev pub GoesOn : ℕ → Terminator → Type 0
+GoesOn n (terminator.Goto target) = n < target.0
+GoesOn n (terminator.Switch o arms otherwise) = (n < otherwise.0) × ArmsGoOn n arms
+GoesOn n terminator.Return = Unit {0}
+GoesOn n (terminator.Call destination callee arguments next) = NextGoesOn n next
+
+pub record IsForward (b : Block) : Type 0 where
+  pub short : length b.statements ≤ 1000
+  pub within : b.id.0 < 4096
+  pub jumps : GoesOn b.id.0 b.terminator
+
+abbrev pub Forward : List Block → Type 0
+Forward [] = Unit {0}
+Forward (b ∷ bs) = IsForward b × Forward bs

@@ -1,0 +1,8 @@
+//! The checks of a function, their statuses by trying every choice, and the report that tells of them.
+#![tactic(auto)]
+
+mod checks;
+mod status;
+
+pub use checks::{Check, checks_of};
+pub use status::{CheckStatus, Outcome, UnitReport};
