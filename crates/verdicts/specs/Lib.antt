@@ -1,3 +1,4 @@
 pub mod Checks
+pub mod Engine
 pub mod Forward
 pub mod Statuses

@@ -3,6 +3,7 @@
 
 mod checks;
 mod status;
+mod step;
 
 pub use checks::{Check, checks_of};
 pub use status::{CheckStatus, Outcome, UnitReport};
