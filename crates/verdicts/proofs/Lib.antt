@@ -1,2 +1,6 @@
+pub mod Descent
+pub mod FindingLemmas
 pub mod Forwards
 pub mod Pushes
+pub mod RunLemmas
+pub mod WalkLemmas

@@ -1,4 +1,5 @@
 pub mod Checks
 pub mod Engine
+pub mod Findings
 pub mod Forward
 pub mod Statuses

@@ -2,6 +2,7 @@
 #![tactic(auto)]
 
 mod checks;
+mod explore;
 mod status;
 mod step;
 
