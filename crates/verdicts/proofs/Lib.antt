@@ -3,4 +3,5 @@ pub mod FindingLemmas
 pub mod Forwards
 pub mod Pushes
 pub mod RunLemmas
+pub mod StatusLemmas
 pub mod WalkLemmas

@@ -57,16 +57,16 @@ walk_branch f old new k destination next c forward walk e branch is =
     }
 
 pub adds_none : (f : Function) (found : List Finding) → Adds f found found
-adds_none f found = record { sound = λ each. each; kept = λ fault h. h; }
+adds_none f found = record { sound = λ each. each; kept = λ fault h. h }
 
 pub explored_goes : (f : Function) (s t : Configuration) (old new : List Finding) → step f s ≡ Goes t → Explored f t old new → Explored f s old new
-explored_goes f s t old new e there = record { adds = there.adds; covers = covers_goes f s t new e there.covers; }
+explored_goes f s t old new e there = record { adds = there.adds; covers = covers_goes f s t new e there.covers }
 
 pub explored_ends : (f : Function) (s : Configuration) (found : List Finding) → step f s ≡ Ends → Explored f s found found
-explored_ends f s found e = record { adds = adds_none f found; covers = covers_ends f s found e; }
+explored_ends f s found e = record { adds = adds_none f found; covers = covers_ends f s found e }
 
 pub explored_stuck : (f : Function) (s : Configuration) (found : List Finding) → step f s ≡ Stuck → Explored f s found found
-explored_stuck f s found e = record { adds = adds_none f found; covers = covers_stuck f s found e; }
+explored_stuck f s found e = record { adds = adds_none f found; covers = covers_stuck f s found e }
 
 pub explored_faults : (f : Function) (w : Walk) (c : CheckClass) (old new : List Finding) (x : Finding) → IsWalk f w → step f (configuration w.state) ≡ Faults c
     → x.fault ≡ fault_in (configuration w.state) c → x.choices ≡ w.choices → x.steps ≡ w.steps + 1 → Noted old new x → Explored f (configuration w.state) old new
@@ -76,7 +76,7 @@ explored_faults f w c old new x walk e fault choices steps noted =
     let two : Reaches f x.fault x.choices (w.steps + 1) = subst (λ cs. Reaches f x.fault cs (w.steps + 1)) (sym choices) one in
     let three : Reaches f x.fault x.choices x.steps = subst (λ n. Reaches f x.fault x.choices n) (sym steps) two in
     record {
-      adds = record { sound = noted.sound f three; kept = noted.kept; };
+      adds = record { sound = noted.sound f three; kept = noted.kept };
       covers = covers_faults f _ c new e (subst (HasFinding new) fault noted.has);
     }
 
@@ -86,15 +86,16 @@ unfolding CoversRuns
 covers_kept f s old new kept covers n choices unused fault h = kept fault (covers n choices unused fault h)
 
 pub tried_none : (f : Function) (s : Configuration) (k : ValueKind) (destination next : ℕ) (found : List Finding) → Tried f s k destination next 0 found found
-tried_none f s k destination next found = record { adds = adds_none f found; covers = λ number below. absurd (omega arith); }
+tried_none f s k destination next found = record { adds = adds_none f found; covers = λ number below. absurd (omega arith) }
 
 pub tried_more : (f : Function) (s : Configuration) (k : ValueKind) (destination next below : ℕ) (old mid new : List Finding) → Tried f s k destination next below old mid → Explored f (chosen s destination next below) mid new → Tried f s k destination next (below + 1) old new
 tried_more f s k destination next below old mid new before this = record {
-  adds = record { sound = λ each. this.adds.sound (before.adds.sound each); kept = λ fault h. this.adds.kept fault (before.adds.kept fault h); };
+  adds = record { sound = λ each. this.adds.sound (before.adds.sound each); kept = λ fault h. this.adds.kept fault (before.adds.kept fault h) };
   covers = λ number within. tried_at f s destination next below mid new before.covers this number (cases_below number below within);
 } where
   cases_below : (number below : ℕ) → number < below + 1 → (number < below) ⊎ (number ≡ below)
   cases_below number below within = grind arith
+
   tried_at : (f : Function) (s : Configuration) (destination next below : ℕ) (mid new : List Finding) → ((number : ℕ) → number < below → CoversRuns f (chosen s destination next number) mid) → Explored f (chosen s destination next below) mid new
       → (number : ℕ) → (number < below) ⊎ (number ≡ below) → CoversRuns f (chosen s destination next number) new
   tried_at f s destination next below mid new before this number (inl less) = covers_kept f _ mid new this.adds.kept (before number less)

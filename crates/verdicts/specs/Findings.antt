@@ -6,7 +6,8 @@ use Rattle.mir_ir.specs.declared.kinds.ValueKind.{ValueKind}
 use Rattle.mir_ir.specs.declared.tree.Function.{Function}
 use Rattle.mir_ir.specs.Kinds.{is_choice_of}
 use Rattle.mir_ir.specs.Run as run
-use Rattle.verdicts.specs.Statuses.{Reaches}
+use Rattle.verdicts.specs.Statuses.{IsTrueOf, Reaches}
+use Rattle.verdicts.specs.declared.status.Outcome as status
 use Rattle.verdicts.specs.Engine.{configuration}
 use Rattle.verdicts.specs.declared.explore.Walk.{Walk}
 use Rattle.verdicts.specs.declared.explore.Finding.{Finding}
@@ -74,3 +75,7 @@ pub record IsBranch (old new : Walk) (destination next : ℕ) (choice : Choice) 
   pub state : configuration new.state ≡ run.chosen (configuration old.state) destination next choice.number
   pub choices : new.choices ≡ old.choices ++ choice ∷ []
   pub steps : new.steps ≡ old.steps + 1
+
+-- Where the findings are all that a search has to find, this is so of the check with this fault.
+abbrev pub TellsOutcome : List Finding → Fault → status.Outcome → Type 0
+TellsOutcome found fault told = (f : Function) → IsSearched f found → IsTrueOf f fault told

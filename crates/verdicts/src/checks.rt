@@ -3,7 +3,6 @@ ghost use Rattle.verdicts.specs.Forward.{Forward};
 ghost use Rattle.verdicts.specs.Checks.{asserted_text, assertion_checks, block_checks, call_checks, check_at, checks_behind, checks_in, checks_of, memory_checks, site_in, switch_checks, terminator_checks};
 
 use mir_ir::{Block, Builtin, Constant, Function, Operand, Statement, Terminator};
-use sqlite_items::Items;
 use std::alloc::Global;
 use vk_core::{BlockId, CheckClass, FnId, Name, NoMemory, Site};
 
@@ -16,11 +15,11 @@ pub struct Check {
 }
 
 /// The checks of a function in the order of reports: by block number, statement and class.
-pub fn checks_of(alloc: Global, function: &Function) -> Result<Items<Check>, NoMemory>
+pub fn checks_of(alloc: Global, function: &Function) -> Result<Vec<Check>, NoMemory>
     requires { Forward function.now.blocks }
-    ensures { IfOk result (λ checks. checks ≡ checks_of function.now) }
+    ensures { IfOk result (λ checks. checks.items ≡ checks_of function.now) }
 {
-    let mut checks = Items::new(alloc);
+    let mut checks = Vec::new(alloc);
     for number in 0..function.blocks_end() {
         push_numbered(alloc, &mut checks, function, number)?;
     }
@@ -30,13 +29,13 @@ pub fn checks_of(alloc: Global, function: &Function) -> Result<Items<Check>, NoM
 /// The checks of the block with this number, where there is one.
 fn push_numbered(
     alloc: Global,
-    checks: &mut Items<Check>,
+    checks: &mut Vec<Check>,
     function: &Function,
     number: usize,
 ) -> Result<(), NoMemory>
     requires number { number < 2 ^ 32 }
     requires forward { Forward function.now.blocks }
-    ensures { OnOk result (checks.new ≡ checks.old ++ checks_in function.now number) }
+    ensures { OnOk result (checks.new.items ≡ checks.old.items ++ checks_in function.now number) }
 {
     if let Some(block) = function.block(BlockId(number as u32)) {
         push_block(alloc, checks, block)?;
@@ -44,9 +43,9 @@ fn push_numbered(
     Ok(())
 }
 
-fn push_block(alloc: Global, checks: &mut Items<Check>, block: &Block) -> Result<(), NoMemory>
+fn push_block(alloc: Global, checks: &mut Vec<Check>, block: &Block) -> Result<(), NoMemory>
     requires { length block.now.statements ≤ 1000 }
-    ensures { OnOk result (checks.new ≡ checks.old ++ block_checks block.now) }
+    ensures { OnOk result (checks.new.items ≡ checks.old.items ++ block_checks block.now) }
 {
     push_behind(
         alloc,
@@ -71,14 +70,14 @@ fn site_in(block: BlockId, index: u32) -> Site
 
 fn push_behind(
     alloc: Global,
-    checks: &mut Items<Check>,
+    checks: &mut Vec<Check>,
     block: BlockId,
     index: u32,
     statements: &[Statement],
     last: &Terminator,
 ) -> Result<(), NoMemory>
     requires { index + length statements.now < 2 ^ 32 }
-    ensures { OnOk result (checks.new ≡ checks.old ++ checks_behind block index statements.now last.now) }
+    ensures { OnOk result (checks.new.items ≡ checks.old.items ++ checks_behind block index statements.now last.now) }
 {
     match statements {
         [] => {
@@ -95,11 +94,11 @@ fn push_behind(
 
 fn push_terminator(
     alloc: Global,
-    checks: &mut Items<Check>,
+    checks: &mut Vec<Check>,
     site: Site,
     last: &Terminator,
 ) -> Result<(), NoMemory>
-    ensures { OnOk result (checks.new ≡ checks.old ++ terminator_checks site last.now) }
+    ensures { OnOk result (checks.new.items ≡ checks.old.items ++ terminator_checks site last.now) }
 {
     match last {
         Terminator::Goto { .. } => Ok(()),
@@ -119,11 +118,11 @@ fn push_terminator(
 
 fn push_switch(
     alloc: Global,
-    checks: &mut Items<Check>,
+    checks: &mut Vec<Check>,
     site: Site,
     operand: &Operand,
 ) -> Result<(), NoMemory>
-    ensures { OnOk result (checks.new ≡ checks.old ++ switch_checks site operand.now) }
+    ensures { OnOk result (checks.new.items ≡ checks.old.items ++ switch_checks site operand.now) }
 {
     match operand {
         Operand::Copy(_) | Operand::Move(_) => push_memory(alloc, checks, site),
@@ -133,12 +132,12 @@ fn push_switch(
 
 fn push_assertion(
     alloc: Global,
-    checks: &mut Items<Check>,
+    checks: &mut Vec<Check>,
     site: Site,
     called: Option<Builtin>,
     arguments: &[Operand],
 ) -> Result<(), NoMemory>
-    ensures { OnOk result (checks.new ≡ checks.old ++ assertion_checks site called arguments.now) }
+    ensures { OnOk result (checks.new.items ≡ checks.old.items ++ assertion_checks site called arguments.now) }
 {
     match called {
         Some(Builtin::Assert) => push(
@@ -162,8 +161,8 @@ fn asserted_text(arguments: &[Operand]) -> &[u8]
     }
 }
 
-fn push_memory(alloc: Global, checks: &mut Items<Check>, site: Site) -> Result<(), NoMemory>
-    ensures { OnOk result (checks.new ≡ checks.old ++ memory_checks site) }
+fn push_memory(alloc: Global, checks: &mut Vec<Check>, site: Site) -> Result<(), NoMemory>
+    ensures { OnOk result (checks.new.items ≡ checks.old.items ++ memory_checks site) }
 {
     push(alloc, checks, site, CheckClass::Pointer, b"memory access")?;
     push(
@@ -177,8 +176,8 @@ fn push_memory(alloc: Global, checks: &mut Items<Check>, site: Site) -> Result<(
     Ok(())
 }
 
-fn push_call(alloc: Global, checks: &mut Items<Check>, site: Site) -> Result<(), NoMemory>
-    ensures { OnOk result (checks.new ≡ checks.old ++ call_checks site) }
+fn push_call(alloc: Global, checks: &mut Vec<Check>, site: Site) -> Result<(), NoMemory>
+    ensures { OnOk result (checks.new.items ≡ checks.old.items ++ call_checks site) }
 {
     push_memory(alloc, checks, site)?;
     push(
@@ -193,12 +192,12 @@ fn push_call(alloc: Global, checks: &mut Items<Check>, site: Site) -> Result<(),
 
 fn push(
     alloc: Global,
-    checks: &mut Items<Check>,
+    checks: &mut Vec<Check>,
     site: Site,
     class: CheckClass,
     description: &[u8],
 ) -> Result<(), NoMemory>
-    ensures { OnOk result (checks.new ≡ checks.old ++ check_at site class description.now ∷ []) }
+    ensures { OnOk result (checks.new.items ≡ checks.old.items ++ check_at site class description.now ∷ []) }
 {
     let description = Name::from_bytes(alloc, description)?;
     checks.push(Check {

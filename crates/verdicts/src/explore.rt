@@ -69,7 +69,7 @@ pub fn finding_of<'a>(found: &'a [Finding], fault: &Fault) -> Option<&'a Finding
 
 /// Finds each fault in which a run that goes on from the walk can end.
 #[cycle(explore)]
-fn explore(
+pub fn explore(
     alloc: Global,
     function: &Function,
     walk: Walk,

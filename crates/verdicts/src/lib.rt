@@ -5,6 +5,8 @@ mod checks;
 mod explore;
 mod status;
 mod step;
+mod verify;
 
 pub use checks::{Check, checks_of};
 pub use status::{CheckStatus, Outcome, UnitReport};
+pub use verify::verify_by_trying;

@@ -1,9 +1,8 @@
-use Rattle.std.proofs.Common.{◌≡◌, ◌<◌, ◌≤◌, ◌∙◌, ap, arith, refl, subst, sym}
+use Rattle.std.proofs.Common.{◌≡◌, ◌<◌, ◌≤◌, ◌∙◌, ap, arith, refl, subst}
 use Rattle.mir_ir.specs.Run.{Configuration}
-use Rattle.mir_ir.specs.Kinds.{count_of_values}
 use Rattle.verdicts.proofs.RunLemmas.{fault_in}
 use Rattle.verdicts.specs.Engine.{configuration}
-use Rattle.verdicts.specs.Findings.{Explored, Tried, most_steps}
+use Rattle.verdicts.specs.Findings.{Explored, Tried}
 use Rattle.verdicts.proofs.WalkLemmas.{branch_down, explored_ends, explored_faults, explored_goes, explored_stuck, faults_short, goes_down, is_choice, tried_all, tried_more, walk_branch, walk_goes, walk_room}
 use Rattle.verdicts.proofs.explore.+explore.Goals as goal
 
