@@ -1,5 +1,5 @@
 -- What may be told of the checks of a function.
-use Rattle.std.specs.Prelude.{◌≡◌, ◌⊎◌, ℕ, ◌+◌, ◌-◌, ◌<◌, List, [], ◌∷◌}
+use Rattle.std.specs.Prelude.{◌≡◌, ◌⊎◌, ℕ, ◌-◌, ◌<◌, Bool, true, false, ◌&&◌, List, [], ◌∷◌}
 use Rattle.vk_core.specs.declared.check.Fault.{Fault}
 use Rattle.mir_ir.specs.declared.kinds.Choice.{Choice}
 use Rattle.mir_ir.specs.declared.tree.Function.{Function}
@@ -45,3 +45,17 @@ pub record FitStatuses (f : Function) (statuses : List CheckStatus) : Type 0 whe
 -- no choices and no number of steps lead to a fault
 abbrev pub NeverFaults : Function → Type 0
 NeverFaults f = (fault : Fault) → Never f fault
+
+abbrev pub is_success : status.Outcome → Bool
+is_success outcome.Success = true
+is_success (outcome.Failure choices steps) = false
+
+-- a unit is SUCCESSFUL where each of its checks is, else FAILED
+abbrev pub all_succeed : List CheckStatus → Bool
+all_succeed [] = true
+all_succeed (s ∷ ss) = is_success s.outcome && all_succeed ss
+
+-- some check of the list has this fault
+abbrev pub HasCheck : List Check → Fault → Type 0
+HasCheck [] fault = ⊥
+HasCheck (c ∷ cs) fault = (fault_of c ≡ fault) ⊎ HasCheck cs fault
