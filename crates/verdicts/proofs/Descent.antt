@@ -1,5 +1,5 @@
 -- Each step of a run of the form goes down, so that a run ends.
-use Rattle.std.proofs.Common.{◌≡◌, ℕ, ◌+◌, ◌-◌, ◌*◌, ◌<◌, ◌≤◌, ◌==◌, Bool, true, false, cond, List, [], ◌∷◌, length, Option, Some, None, find, option_map, unwrap_or, arith, subst, sym, refl}
+use Rattle.std.proofs.Common.{◌≡◌, ℕ, ◌+◌, ◌<◌, ◌≤◌, ◌==◌, Bool, true, false, cond, List, [], ◌∷◌, length, Option, Some, None, find, option_map, unwrap_or, arith, subst, refl}
 use Rattle.std.specs.Prelude.{slice_get}
 use Rattle.std.proofs.lemmas.Bool.{eqb-true}
 use Rattle.std.proofs.lemmas.Option.{same_Some, none-some, slice_get_within}
@@ -19,8 +19,8 @@ use Rattle.mir_ir.specs.Builtins.{builtin_of}
 use Rattle.mir_ir.specs.Look.{block_of}
 use Rattle.mir_ir.specs.Run.{Configuration, Stepped, Goes, Ends, Faults, Chooses, Stuck, step, block_step, step_at, terminator_step, statement_step, assigned, switched, asserted, assert_step, builtin_step, call_step, target_of, entry_of, operand_value, rvalue_value}
 use Rattle.verdicts.specs.Findings.{height}
-use Rattle.verdicts.specs.Forward.{Forward, IsForward, GoesOn, ArmsGoOn, NextGoesOn}
-use Rattle.verdicts.proofs.Forwards.{forward_found}
+use Rattle.verdicts.specs.Runnable.{Runnable, IsRunnable, GoesOn, ArmsGoOn, NextGoesOn}
+use Rattle.verdicts.proofs.RunnableLemmas.{forward_found}
 
 -- what is known of where a run stands behind a step
 abbrev pub Descends : Configuration → Stepped → Type 0
@@ -104,13 +104,13 @@ found_number (x ∷ xs) n b e =
     elim (x.id.0 == n) as (λ v. (x.id.0 == n) ≡ v → cond v (Some x) (find (λ y. y.id.0 == n) xs) ≡ Some b → b.id.0 ≡ n)
     [ true ↦ λ same h. subst (λ y. y.id.0 ≡ n) (same_Some x b h) (eqb-true x.id.0 n same) | false ↦ λ other h. found_number xs n b h ] refl e
 
-pub descends_block : (f : Function) (s : Configuration) (found : Option Block) → block_of f s.block ≡ found → Forward f.blocks → Descends s (block_step f s found)
+pub descends_block : (f : Function) (s : Configuration) (found : Option Block) → block_of f s.block ≡ found → Runnable f.blocks → Descends s (block_step f s found)
 descends_block f s None e forward = tt
 descends_block f s (Some b) e forward =
-    let known : IsForward b = forward_found (λ x. x.id.0 == s.block) f.blocks b forward e in
+    let known : IsRunnable b = forward_found (λ x. x.id.0 == s.block) f.blocks b forward e in
     let number : b.id.0 ≡ s.block = found_number f.blocks s.block b e in
     descends_at f s b.terminator b.statements (slice_get b.statements s.index) refl known.short (subst (λ n. n < 4096) number known.within) (subst (λ n. GoesOn n b.terminator) number known.jumps)
 
-pub descends : (f : Function) (s : Configuration) → Forward f.blocks → Descends s (step f s)
+pub descends : (f : Function) (s : Configuration) → Runnable f.blocks → Descends s (step f s)
 unfolding step
 descends f s forward = descends_block f s (block_of f s.block) refl forward

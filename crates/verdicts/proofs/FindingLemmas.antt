@@ -1,5 +1,5 @@
 -- Findings that are kept.
-use Rattle.std.proofs.Common.{◌≡◌, List, [], ◌∷◌, ◌++◌, inl, inr, ◌⊎◌, refl}
+use Rattle.std.proofs.Common.{List, [], ◌∷◌, ◌++◌, inl, inr, refl}
 use Rattle.vk_core.specs.declared.check.Fault.{Fault}
 use Rattle.mir_ir.specs.declared.tree.Function.{Function}
 use Rattle.verdicts.specs.Statuses.{Reaches}

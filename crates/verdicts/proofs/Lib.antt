@@ -1,6 +1,7 @@
 pub mod Descent
 pub mod FindingLemmas
-pub mod Forwards
+pub mod Listed
+pub mod RunnableLemmas
 pub mod Pushes
 pub mod RunLemmas
 pub mod StatusLemmas

@@ -1,5 +1,5 @@
 -- How a search of runs goes on, and what it has then found.
-use Rattle.std.proofs.Common.{◌≡◌, ℕ, ◌+◌, ◌*◌, ◌^◌, ◌<◌, ◌≤◌, Bool, true, false, cond, ◌&&◌, List, [], ◌∷◌, ◌++◌, subst, sym, ap, ◌∙◌, refl, arith, ◌⊎◌, inl, inr}
+use Rattle.std.proofs.Common.{◌≡◌, ℕ, ◌+◌, ◌<◌, ◌≤◌, Bool, true, false, ◌&&◌, List, [], ◌∷◌, ◌++◌, subst, sym, ap, ◌∙◌, refl, arith, ◌⊎◌, inl, inr}
 use Rattle.std.proofs.lemmas.Bool.{ltb-true, lt-ltb}
 use Rattle.vk_core.specs.declared.check.CheckClass.{CheckClass}
 use Rattle.vk_core.specs.declared.check.Fault.{Fault}
@@ -10,10 +10,10 @@ use Rattle.mir_ir.specs.declared.tree.IntTy.{IntTy}
 use Rattle.mir_ir.specs.declared.tree.IntTy.TheVariants as int
 use Rattle.mir_ir.specs.declared.tree.Function.{Function}
 use Rattle.mir_ir.specs.Kinds.{count_of_values, is_choice_of, is_value, same_int, same_kind}
-use Rattle.mir_ir.specs.Run.{Configuration, Goes, Ends, Faults, Chooses, Stuck, chosen, run, start, step}
+use Rattle.mir_ir.specs.Run.{Configuration, Goes, Ends, Faults, Chooses, Stuck, chosen, step}
 use Rattle.verdicts.specs.Engine.{configuration}
-use Rattle.verdicts.specs.Findings.{Adds, CoversRuns, EachReaches, Explored, HasFinding, IsBranch, IsWalk, Leads, Noted, Tried, height, most_steps}
-use Rattle.verdicts.specs.Forward.{Forward}
+use Rattle.verdicts.specs.Findings.{Adds, CoversRuns, Explored, HasFinding, IsBranch, IsWalk, Leads, Noted, Tried, height, most_steps}
+use Rattle.verdicts.specs.Runnable.{Runnable}
 use Rattle.verdicts.specs.Statuses.{Reaches}
 use Rattle.verdicts.specs.declared.explore.Walk.{Walk}
 use Rattle.verdicts.specs.declared.explore.Finding.{Finding}
@@ -21,19 +21,19 @@ use Rattle.verdicts.proofs.Descent.{Descends, descends, height_jump}
 use Rattle.verdicts.proofs.RunLemmas.{covers_chooses, covers_ends, covers_faults, covers_goes, covers_stuck, fault_in, leads_chooses, leads_fault, leads_goes}
 
 -- a step that goes on goes down
-pub goes_down : (f : Function) (s t : Configuration) → Forward f.blocks → step f s ≡ Goes t → height t < height s
+pub goes_down : (f : Function) (s t : Configuration) → Runnable f.blocks → step f s ≡ Goes t → height t < height s
 goes_down f s t forward e = subst (Descends s) e (descends f s forward)
 
 -- and so does a choice
-pub chooses_down : (f : Function) (s : Configuration) (k : ValueKind) (destination next number : ℕ) → Forward f.blocks → step f s ≡ Chooses k destination next → height (chosen s destination next number) < height s
+pub chooses_down : (f : Function) (s : Configuration) (k : ValueKind) (destination next number : ℕ) → Runnable f.blocks → step f s ≡ Chooses k destination next → height (chosen s destination next number) < height s
 chooses_down f s k destination next number forward e =
     let on : Descends s (Chooses k destination next) = subst (Descends s) e (descends f s forward) in
     height_jump s next _ on.0 on.1
 
-pub faults_short : (f : Function) (s : Configuration) (c : CheckClass) → Forward f.blocks → step f s ≡ Faults c → s.index ≤ 1000
+pub faults_short : (f : Function) (s : Configuration) (c : CheckClass) → Runnable f.blocks → step f s ≡ Faults c → s.index ≤ 1000
 faults_short f s c forward e = subst (Descends s) e (descends f s forward)
 
-pub walk_goes : (f : Function) (old new : Walk) → Forward f.blocks → IsWalk f old → step f (configuration old.state) ≡ Goes (configuration new.state) → new.choices ≡ old.choices → new.steps ≡ old.steps + 1 → IsWalk f new
+pub walk_goes : (f : Function) (old new : Walk) → Runnable f.blocks → IsWalk f old → step f (configuration old.state) ≡ Goes (configuration new.state) → new.choices ≡ old.choices → new.steps ≡ old.steps + 1 → IsWalk f new
 walk_goes f old new forward walk e choices steps =
     let down : height (configuration new.state) < height (configuration old.state) = goes_down f _ _ forward e in
     let bound : old.steps + height (configuration old.state) ≤ most_steps = walk.bounded in
@@ -43,7 +43,7 @@ walk_goes f old new forward walk e choices steps =
       bounded = omega arith;
     }
 
-pub walk_branch : (f : Function) (old new : Walk) (k : ValueKind) (destination next : ℕ) (c : Choice) → Forward f.blocks → IsWalk f old → step f (configuration old.state) ≡ Chooses k destination next → IsBranch old new destination next c → is_choice_of k c ≡ true → IsWalk f new
+pub walk_branch : (f : Function) (old new : Walk) (k : ValueKind) (destination next : ℕ) (c : Choice) → Runnable f.blocks → IsWalk f old → step f (configuration old.state) ≡ Chooses k destination next → IsBranch old new destination next c → is_choice_of k c ≡ true → IsWalk f new
 walk_branch f old new k destination next c forward walk e branch is =
     let down : height (chosen (configuration old.state) destination next c.number) < height (configuration old.state) = chooses_down f _ k destination next c.number forward e in
     let same : height (configuration new.state) ≡ height (chosen (configuration old.state) destination next c.number) = ap height branch.state in
@@ -124,13 +124,13 @@ pub is_choice : (k : ValueKind) (number : ℕ) → number < count_of_values k �
 is_choice k number below = ap (λ b. b && is_value k number) (same_kind_refl k) ∙ lt-ltb number (count_of_values k) below
 
 -- a walk before a choice has steps left
-pub walk_room : (f : Function) (w : Walk) (k : ValueKind) (destination next : ℕ) → Forward f.blocks → IsWalk f w → step f (configuration w.state) ≡ Chooses k destination next → w.steps < most_steps
+pub walk_room : (f : Function) (w : Walk) (k : ValueKind) (destination next : ℕ) → Runnable f.blocks → IsWalk f w → step f (configuration w.state) ≡ Chooses k destination next → w.steps < most_steps
 walk_room f w k destination next forward walk e =
     let down : height (chosen (configuration w.state) destination next 0) < height (configuration w.state) = chooses_down f _ k destination next 0 forward e in
     let bound : w.steps + height (configuration w.state) ≤ most_steps = walk.bounded in
     omega arith
 
 -- a branch goes down
-pub branch_down : (f : Function) (old new : Walk) (k : ValueKind) (destination next : ℕ) (c : Choice) → Forward f.blocks → step f (configuration old.state) ≡ Chooses k destination next → IsBranch old new destination next c → height (configuration new.state) < height (configuration old.state)
+pub branch_down : (f : Function) (old new : Walk) (k : ValueKind) (destination next : ℕ) (c : Choice) → Runnable f.blocks → step f (configuration old.state) ≡ Chooses k destination next → IsBranch old new destination next c → height (configuration new.state) < height (configuration old.state)
 branch_down f old new k destination next c forward e branch =
     subst (λ s. height s < height (configuration old.state)) (sym branch.state) (chooses_down f _ k destination next c.number forward e)

@@ -1,5 +1,5 @@
 -- Which checks a function has: each is a site and a class of fault, with the words that a report gives to it.
-use Rattle.std.specs.Prelude.{ℕ, zero, suc, ◌+◌, Bool, true, false, if◌then◌else◌, List, [], ◌∷◌, ◌++◌, Option, Some, None, codes, length}
+use Rattle.std.specs.Prelude.{ℕ, zero, suc, ◌+◌, Bool, true, false, if◌then◌else◌, List, [], ◌∷◌, ◌++◌, Option, Some, None, codes}
 use Rattle.vk_core.specs.declared.ids.BlockId.{BlockId}
 use Rattle.vk_core.specs.declared.check.Site.{Site}
 use Rattle.vk_core.specs.declared.check.CheckClass.{CheckClass}

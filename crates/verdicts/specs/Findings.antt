@@ -4,7 +4,6 @@ use Rattle.vk_core.specs.declared.check.Fault.{Fault}
 use Rattle.mir_ir.specs.declared.kinds.Choice.{Choice}
 use Rattle.mir_ir.specs.declared.kinds.ValueKind.{ValueKind}
 use Rattle.mir_ir.specs.declared.tree.Function.{Function}
-use Rattle.mir_ir.specs.Kinds.{is_choice_of}
 use Rattle.mir_ir.specs.Run as run
 use Rattle.verdicts.specs.Statuses.{IsTrueOf, Reaches}
 use Rattle.verdicts.specs.declared.status.Outcome as status

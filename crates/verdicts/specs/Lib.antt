@@ -1,6 +1,6 @@
 pub mod Checks
 pub mod Engine
 pub mod Findings
-pub mod Forward
+pub mod Runnable
 pub mod Report
 pub mod Statuses

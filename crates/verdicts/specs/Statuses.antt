@@ -3,7 +3,7 @@ use Rattle.std.specs.Prelude.{◌≡◌, ◌⊎◌, ℕ, ◌-◌, ◌<◌, Bool,
 use Rattle.vk_core.specs.declared.check.Fault.{Fault}
 use Rattle.mir_ir.specs.declared.kinds.Choice.{Choice}
 use Rattle.mir_ir.specs.declared.tree.Function.{Function}
-use Rattle.mir_ir.specs.Run.{run, start, Outcome, Running, Faulted}
+use Rattle.mir_ir.specs.Run.{run, start, Running, Faulted}
 use Rattle.verdicts.specs.Checks.{checks_of}
 use Rattle.verdicts.specs.declared.checks.Check.{Check}
 use Rattle.verdicts.specs.declared.status.CheckStatus.{CheckStatus}
@@ -59,3 +59,7 @@ all_succeed (s ∷ ss) = is_success s.outcome && all_succeed ss
 abbrev pub HasCheck : List Check → Fault → Type 0
 HasCheck [] fault = ⊥
 HasCheck (c ∷ cs) fault = (fault_of c ≡ fault) ⊎ HasCheck cs fault
+
+-- every fault in which a run of any length can end is a check of the function
+abbrev pub EachFaultIsListed : Function → Type 0
+EachFaultIsListed f = (n : ℕ) (choices unused : List Choice) (fault : Fault) → run f n (start f) choices ≡ Faulted fault unused → HasCheck (checks_of f) fault

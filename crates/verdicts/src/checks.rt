@@ -1,5 +1,6 @@
 ghost use Rattle.std.specs.Prelude.{◌≡◌, ℕ, ◌+◌, ◌<◌, ◌≤◌, ◌^◌, [], ◌∷◌, ◌++◌, IfOk, OnOk, length};
-ghost use Rattle.verdicts.specs.Forward.{Forward};
+ghost use Rattle.verdicts.specs.Runnable.{Runnable};
+ghost use Rattle.verdicts.specs.Statuses.{EachFaultIsListed};
 ghost use Rattle.verdicts.specs.Checks.{asserted_text, assertion_checks, block_checks, call_checks, check_at, checks_behind, checks_in, checks_of, memory_checks, site_in, switch_checks, terminator_checks};
 
 use mir_ir::{Block, Builtin, Constant, Function, Operand, Statement, Terminator};
@@ -16,8 +17,11 @@ pub struct Check {
 
 /// The checks of a function in the order of reports: by block number, statement and class.
 pub fn checks_of(alloc: Global, function: &Function) -> Result<Vec<Check>, NoMemory>
-    requires { Forward function.now.blocks }
-    ensures { IfOk result (λ checks. checks.items ≡ checks_of function.now) }
+    requires { Runnable function.now.blocks }
+    ensures list { IfOk result (λ checks. checks.items ≡ checks_of function.now) }
+
+    // The list leaves out no fault in which a run of any length can end.
+    ensures complete { IfOk result (λ checks. EachFaultIsListed function.now) }
 {
     let mut checks = Vec::new(alloc);
     for number in 0..function.blocks_end() {
@@ -34,7 +38,7 @@ fn push_numbered(
     number: usize,
 ) -> Result<(), NoMemory>
     requires number { number < 2 ^ 32 }
-    requires forward { Forward function.now.blocks }
+    requires forward { Runnable function.now.blocks }
     ensures { OnOk result (checks.new.items ≡ checks.old.items ++ checks_in function.now number) }
 {
     if let Some(block) = function.block(BlockId(number as u32)) {

@@ -2,7 +2,7 @@ ghost use Rattle.std.specs.Prelude.{◌≡◌, ℕ, ◌+◌, ◌<◌, ◌≤◌,
 ghost use Rattle.mir_ir.specs.Run.{Chooses, step, site_of, start};
 ghost use Rattle.verdicts.specs.Engine.{configuration};
 ghost use Rattle.verdicts.specs.Findings.{Explored, HasFinding, IsBranch, IsFinding, IsSearched, IsWalk, Noted, Tried, most_steps};
-ghost use Rattle.verdicts.specs.Forward.{Forward};
+ghost use Rattle.verdicts.specs.Runnable.{Runnable};
 
 use crate::step::{State, Step, store, take_step};
 use mir_ir::{Choice, Function, ValueKind};
@@ -75,7 +75,7 @@ pub fn explore(
     walk: Walk,
     found: &mut Items<Finding>,
 ) -> Result<(), NoMemory>
-    requires forward { Forward function.now.blocks }
+    requires forward { Runnable function.now.blocks }
     requires walk { IsWalk function.now walk }
     ensures { OnOk result (Explored function.now (configuration walk.state) found.old found.new) }
 {
@@ -133,7 +133,7 @@ fn try_choices(
     next: BlockId,
     found: &mut Items<Finding>,
 ) -> Result<(), NoMemory>
-    requires forward { Forward function.now.blocks }
+    requires forward { Runnable function.now.blocks }
     requires walk { IsWalk function.now walk.now }
     requires chooses { step function.now (configuration walk.now.state) ≡ Chooses kind destination.0 next.0 }
     ensures { OnOk result (Explored function.now (configuration walk.now.state) found.old found.new) }

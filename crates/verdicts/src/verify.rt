@@ -1,9 +1,9 @@
-ghost use Rattle.std.specs.Prelude.{◌≡◌, ℕ, IfOk, OnOk, None, replicate};
+ghost use Rattle.std.specs.Prelude.{◌≡◌, ℕ, IfOk, OnOk, None, replicate, true};
 ghost use Rattle.mir_ir.specs.Run.{start};
 ghost use Rattle.verdicts.specs.Engine.{configuration};
 ghost use Rattle.verdicts.specs.Findings.{IsSearched, TellsOutcome};
-ghost use Rattle.verdicts.specs.Forward.{Forward};
-ghost use Rattle.verdicts.specs.Statuses.{FitStatuses, fault_of};
+ghost use Rattle.verdicts.specs.Runnable.{Runnable};
+ghost use Rattle.verdicts.specs.Statuses.{FitStatuses, NeverFaults, all_succeed, fault_of};
 
 use crate::checks::{Check, checks_of};
 use crate::explore::{Finding, Walk, explore, finding_of};
@@ -32,7 +32,7 @@ fn start(alloc: Global, function: &Function) -> Result<State, NoMemory>
 
 /// Tries every list of choices.
 fn search(alloc: Global, function: &Function) -> Result<Items<Finding>, NoMemory>
-    requires { Forward function.now.blocks }
+    requires { Runnable function.now.blocks }
     ensures { IfOk result (λ found. IsSearched function.now found) }
 {
     let mut found = Items::new(alloc);
@@ -62,9 +62,8 @@ fn outcome_of(alloc: Global, found: &[Finding], check: &Check) -> Result<Outcome
     }
 }
 
-/// The status of each check of the function, in their order, by trying every list of choices.
-pub fn verify_by_trying(alloc: Global, function: &Function) -> Result<Items<CheckStatus>, NoMemory>
-    requires { Forward function.now.blocks }
+fn statuses_of(alloc: Global, function: &Function) -> Result<Items<CheckStatus>, NoMemory>
+    requires { Runnable function.now.blocks }
     ensures { IfOk result (λ statuses. FitStatuses function.now statuses) }
 {
     let found = search(alloc, function)?;
@@ -74,5 +73,17 @@ pub fn verify_by_trying(alloc: Global, function: &Function) -> Result<Items<Chec
         let outcome = outcome_of(alloc, found.as_slice(), &check)?;
         statuses.push(CheckStatus { check, outcome })?;
     }
+    Ok(statuses)
+}
+
+/// The status of each check of the function, in their order, by trying every list of choices.
+pub fn verify_by_trying(alloc: Global, function: &Function) -> Result<Items<CheckStatus>, NoMemory>
+    requires { Runnable function.now.blocks }
+    ensures fit { IfOk result (λ statuses. FitStatuses function.now statuses) }
+
+    // Where each check is a success, no choices and no number of steps lead to a fault.
+    ensures safe { IfOk result (λ statuses. all_succeed statuses ≡ true → NeverFaults function.now) }
+{
+    let statuses = statuses_of(alloc, function)?;
     Ok(statuses)
 }

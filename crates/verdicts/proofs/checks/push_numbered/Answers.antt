@@ -1,4 +1,4 @@
-use Rattle.verdicts.proofs.Forwards.{forward_block}
+use Rattle.verdicts.proofs.RunnableLemmas.{forward_block}
 use Rattle.verdicts.proofs.checks.push_numbered.Goals as goal
 
 pub push_block-requires : goal.push_block-requires

@@ -1,10 +1,5 @@
-use Rattle.std.proofs.Common.{subst, sym}
-use Rattle.verdicts.specs.Findings.{IsSearched}
-use Rattle.verdicts.proofs.StatusLemmas.{told_more, true_more}
+use Rattle.verdicts.proofs.Listed.{never_faults}
 use Rattle.verdicts.proofs.verify.verify_by_trying.Goals as goal
 
-pub loop-check-preserved : goal.loop-check-preserved
-loop-check-preserved c = record {
-  told = told_more _ _ _ _ c.in_ok-push.ensures.ok c.loop-check.invariant.told;
-  each = true_more c.args.function.now _ _ _ c.in_ok-push.ensures.ok c.loop-check.invariant.each (c.in_ok-outcome.ensures c.args.function.now (subst (IsSearched c.args.function.now) (sym c.as_slice.ensures) c.in_ok-found.ensures));
-}
+pub returns-clause-safe : goal.returns-clause-safe
+returns-clause-safe c success = never_faults c.args.function.now c.in_ok-statuses.statuses c.requires c.in_ok-statuses.ensures success
