@@ -12,3 +12,6 @@ pub use checks::{Check, checks_of};
 pub use report::{all_succeed, report_text};
 pub use status::{CheckStatus, Outcome, UnitReport};
 pub use verify::verify_by_trying;
+
+#[cfg(test)]
+mod tests;
