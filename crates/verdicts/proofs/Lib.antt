@@ -1,4 +1,5 @@
 pub mod Descent
+mod Examples
 pub mod FindingLemmas
 pub mod Listed
 pub mod RunnableLemmas
