@@ -1,0 +1,4 @@
+pub mod MarkFacts
+pub mod StandingFacts
+pub mod Examples
+pub mod HintFacts

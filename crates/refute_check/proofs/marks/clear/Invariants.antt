@@ -1,0 +1,6 @@
+use Rattle.std.proofs.Common.{ℕ, ◌<◌, ◌≤◌, get_or}
+use Rattle.refute_check.proofs.marks.clear.Given as goal
+
+-- the marks so far are clear
+abbrev pub invariant-loop-mark : goal.invariant-loop-mark
+invariant-loop-mark l = (k : ℕ) → k < l.mark-index → get_or l.marks k 0 ≤ 0
