@@ -1,0 +1,42 @@
+#!/usr/bin/env python3
+"""Runs the built program on each case of tests/cases and compares its standard output and its status.
+
+A case is a folder. Its file `words` has one word a line; `status` has the exit status that is wanted (0 where the
+file is absent); `stdout` has the exact bytes that are wanted. The program runs in the folder, so the words name
+the files in it. A case of several files needs nothing but data.
+"""
+import pathlib
+import subprocess
+import sys
+
+TOP = pathlib.Path(__file__).resolve().parent.parent
+PROGRAM = TOP / "kani-mir"
+
+
+def run(case):
+    words = (case / "words").read_bytes().decode().splitlines()
+    status_file = case / "status"
+    wanted_status = int(status_file.read_text()) if status_file.exists() else 0
+    wanted = (case / "stdout").read_bytes()
+    done = subprocess.run([PROGRAM, *words], cwd=case, stdout=subprocess.PIPE, timeout=600)
+    if done.returncode != wanted_status:
+        return f"status {done.returncode}, wanted {wanted_status}"
+    if done.stdout != wanted:
+        return f"wrote {done.stdout!r}, wanted {wanted!r}"
+    return None
+
+
+def main():
+    cases = sorted(path for path in (TOP / "tests" / "cases").iterdir() if path.is_dir())
+    failed = 0
+    for case in cases:
+        trouble = run(case)
+        if trouble:
+            failed += 1
+            print(f"{case.name}: {trouble}")
+    print(f"cases: {len(cases) - failed} passed, {failed} failed")
+    return 1 if failed or not cases else 0
+
+
+if __name__ == "__main__":
+    sys.exit(main())
