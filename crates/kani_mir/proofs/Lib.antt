@@ -1,0 +1,4 @@
+pub mod CommandLemmas
+pub mod FormLemmas
+pub mod JudgeLemmas
+pub mod LabelLemmas

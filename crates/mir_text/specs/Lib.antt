@@ -1,0 +1,11 @@
+pub mod Coded
+pub mod CodedCalls
+pub mod Grammar
+pub mod Leaves
+pub mod Lexing
+pub mod Means
+pub mod Places
+pub mod Productions
+pub mod Reading
+pub mod Rules
+pub mod Tokens
