@@ -1,0 +1,15 @@
+pub mod ChoiceLemmas
+pub mod FollowLemmas
+pub mod GatherLemmas
+pub mod LearnLemmas
+pub mod Negations
+pub mod SearchLemmas
+pub mod StartLemmas
+pub mod StepLemmas
+pub mod TrailLemmas
+pub mod ValueLemmas
+pub mod PlaceLemmas
+pub mod ProgressLemmas
+pub mod ResolveLemmas
+pub mod RoleLemmas
+pub mod ScanLemmas

@@ -1,0 +1,14 @@
+pub mod Answer
+pub mod Choice
+pub mod Known
+pub mod Learned
+pub mod Progress
+pub mod Quiet
+pub mod Roles
+pub mod Scan
+pub mod Search
+pub mod Steps
+pub mod Trail
+pub mod Truths
+pub mod Turn
+pub mod Values

@@ -1,0 +1,16 @@
+//! A solver of clause lists that shows its work: it answers a satisfying assignment, a refutation, or the clauses that it
+//! learned before its budget was spent.
+#![tactic(auto)]
+
+mod choice;
+mod learn;
+mod roles;
+mod scan;
+mod search;
+mod solver;
+mod trail;
+
+pub use solver::{Effort, SatAnswer, solve};
+
+#[cfg(test)]
+mod tests;
