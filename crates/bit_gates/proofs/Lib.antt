@@ -1,0 +1,12 @@
+pub mod ValueLaws
+pub mod LiteralLaws
+pub mod FoldLaws
+pub mod MadeLaws
+pub mod NumberLaws
+pub mod WordLaws
+pub mod SumLaws
+pub mod BitOpLaws
+pub mod TestLaws
+pub mod ShiftLaws
+pub mod ProductLaws
+pub mod InputLaws

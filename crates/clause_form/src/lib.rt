@@ -1,0 +1,9 @@
+//! Clauses that say what gates compute.
+#![tactic(auto)]
+
+mod form;
+
+pub use form::clauses;
+
+#[cfg(test)]
+mod tests;

@@ -1,0 +1,17 @@
+//! Terms: the values of words as functions of inputs, shared and folded.
+#![tactic(auto)]
+
+mod again;
+mod choices;
+mod fold;
+mod laws;
+mod parts;
+mod rewrite;
+mod simpler;
+mod term;
+mod terms;
+#[cfg(test)]
+mod tests;
+
+pub use term::{Term, TermId, TermOp};
+pub use terms::Terms;

@@ -1,0 +1,5 @@
+pub mod Cuts
+pub mod Edges
+pub mod Kept
+pub mod Overflows
+pub mod SignedValues
