@@ -1,6 +1,7 @@
 //! The DIMACS format of clause lists.
 
 ghost use Rattle.std.specs.Prelude.{IfOk, IfSome, ◌≡◌};
+ghost use Rattle.dimacs_solve.specs.Numbers.{NumberReads};
 ghost use Rattle.region_pool.specs.Clauses.{IsLiteral, AreLiterals};
 
 use region_pool::Clauses;
@@ -31,14 +32,11 @@ impl From<AllocError> for DimacsError {
     }
 }
 
-/// The literal of a word, or None for the 0 that ends a clause.
-fn read_literal(word: &str, variables: usize) -> Result<Option<u64>, DimacsError>
-    ensures { IfOk result (λ literal. IfSome literal (IsLiteral variables)) }
+/// The literal that digits name, or None for the 0 that ends a clause.
+fn read_number(digits: &str, is_negated: bool, variables: usize) -> Result<Option<u64>, DimacsError>
+    ensures reads { NumberReads variables is_negated digits.now result }
+    ensures fits { IfOk result (λ literal. IfSome literal (IsLiteral variables)) }
 {
-    let (digits, is_negated) = match word.strip_prefix('-') {
-        Some(digits) => (digits, true),
-        None => (word, false),
-    };
     let Ok(number) = digits.parse::<u64>() else {
         return Err(DimacsError::BadLiteral);
     };
@@ -49,6 +47,16 @@ fn read_literal(word: &str, variables: usize) -> Result<Option<u64>, DimacsError
         return Err(DimacsError::BadLiteral);
     }
     Ok(Some(2 * (number - 1) + u64::from(is_negated)))
+}
+
+/// The literal of a word, or None for the 0 that ends a clause.
+fn read_literal(word: &str, variables: usize) -> Result<Option<u64>, DimacsError>
+    ensures { IfOk result (λ literal. IfSome literal (IsLiteral variables)) }
+{
+    match word.strip_prefix('-') {
+        Some(digits) => read_number(digits, true, variables),
+        None => read_number(word, false, variables),
+    }
 }
 
 /// Reads the clauses of one line.

@@ -16,7 +16,7 @@ use Rattle.sat_core.proofs.ResolveLemmas.{step_unique, step_opposed}
 use Rattle.sat_core.proofs.ScanLemmas.{quiet_by_two}
 use Rattle.sat_core.proofs.StepLemmas.{holds_before, place_before}
 
-contains_cases : (xs : List ℕ) (x : ℕ) → Contains xs x ⊎ (¬ Contains xs x)
+pub contains_cases : (xs : List ℕ) (x : ℕ) → Contains xs x ⊎ (¬ Contains xs x)
 contains_cases [] x = inr (λ (k, h, e). omega arith)
 contains_cases (y ∷ xs) x = elim (cases_eq y x) [
   | inl e ↦ inl (zero, omega arith, e)

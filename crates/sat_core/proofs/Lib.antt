@@ -8,6 +8,11 @@ pub mod StartLemmas
 pub mod StepLemmas
 pub mod TrailLemmas
 pub mod ValueLemmas
+pub mod WaitLemmas
+pub mod WatchLemmas
+pub mod MoveLemmas
+pub mod MoreLemmas
+pub mod PassLemmas
 pub mod PlaceLemmas
 pub mod ProgressLemmas
 pub mod ResolveLemmas

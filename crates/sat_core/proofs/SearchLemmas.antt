@@ -40,6 +40,7 @@ search_push input log trail step search fits free holds =
     record {
       search = record {
         variables = search.variables;
+        literals = search.literals;
         lines = search.lines;
         gained = search.gained;
         fit = fit;
@@ -179,6 +180,7 @@ module _ (input : ClauseList) (log : List Line) (trail : Steps) (roles : List Ro
       record {
         search = record {
           variables = search.variables;
+          literals = search.literals;
           lines = subst (λ (s : List (List ℕ)). All (AreLiterals input.variables) s) (sym (map-append (λ (l : Line). l.literals) log (the_line ∷ []))) (All-push (AreLiterals input.variables) (literals_of log) the_line.literals search.lines gained.follows.literals);
           gained = EachLine-push (λ s x. IsGained input.variables s x) input log the_line search.gained gained;
           fit = EachStep-push (Fits input.variables) (take cut trail.steps) the_step (EachStep-take (Fits input.variables) cut trail.steps search.fit) (asserted_fits, asserted_free);

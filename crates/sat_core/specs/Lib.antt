@@ -2,6 +2,7 @@ pub mod Answer
 pub mod Choice
 pub mod Known
 pub mod Learned
+pub mod Passing
 pub mod Progress
 pub mod Quiet
 pub mod Roles
@@ -12,3 +13,4 @@ pub mod Trail
 pub mod Truths
 pub mod Turn
 pub mod Values
+pub mod Watches

@@ -1,6 +1,6 @@
 -- What stays true along a search.
 use Rattle.std.specs.Prelude.{◌≡◌, ◌≤◌, List, length, All}
-use Rattle.region_pool.specs.Clauses.{ClauseList}
+use Rattle.region_pool.specs.Clauses.{ClauseList, HasLiterals}
 use Rattle.region_pool.specs.Log.{Line}
 use Rattle.region_pool.specs.Refutation.{IsSpent}
 use Rattle.sat_core.specs.Known.{known_clauses, LinesFit}
@@ -12,6 +12,7 @@ use Rattle.sat_core.specs.Trail.{Steps}
 -- the lines are a spent log, each step fits and has its cause, and there are no more lines than the trail has progress
 pub record IsSearch (input : ClauseList) (log : List Line) (trail : Steps) : Type 0 where
   pub variables : trail.variables ≡ input.variables
+  pub literals : HasLiterals input
   pub lines : LinesFit input.variables log
   pub gained : IsSpent input log
   pub fit : EachStep (Fits input.variables) trail.steps

@@ -4,11 +4,13 @@
 
 mod choice;
 mod learn;
+mod propagate;
 mod roles;
 mod scan;
 mod search;
 mod solver;
 mod trail;
+mod watching;
 
 pub use solver::{Effort, SatAnswer, solve};
 

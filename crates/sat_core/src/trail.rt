@@ -3,7 +3,7 @@
 ghost use Rattle.std.specs.Prelude.{◌≡◌, ℕ, ◌+◌, ◌*◌, ◌^◌, ◌<◌, ◌≤◌, ◌∷◌, ◌++◌, [], length, take, IsTrue, ◌↔◌, OnOk, IfOk, OnErr, Contains};
 ghost use Rattle.region_pool.specs.Clauses.{IsLiteral};
 ghost use Rattle.region_pool.specs.Literals.{negation};
-ghost use Rattle.region_pool.specs.Refutation.{IsOpen};
+ghost use Rattle.region_pool.specs.Refutation.{IsOpen, IsFalse};
 ghost use Rattle.sat_core.specs.Steps.{literals_of_steps, step_at};
 
 use std::alloc::Global;
@@ -129,6 +129,14 @@ impl Trail {
         } else {
             Truth::Open
         }
+    }
+
+    /// Whether a step made the literal false.
+    pub fn is_false(&self, literal: u64) -> bool
+        requires { IsLiteral self.now.variables literal }
+        ensures { IsTrue result ↔ IsFalse (literals_of_steps self.now.steps) literal }
+    {
+        self.is_true(negation_of(literal))
     }
 
     /// Whether a step made the literal true.
