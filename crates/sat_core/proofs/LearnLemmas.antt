@@ -13,7 +13,7 @@ use Rattle.sat_core.specs.Steps.{literals_of_steps, step_at, EachStep, Fits}
 use Rattle.sat_core.proofs.FollowLemmas.{kept_from, kept_has}
 use Rattle.sat_core.proofs.Negations.{negation-negation}
 use Rattle.sat_core.proofs.ResolveLemmas.{step_unique, step_opposed}
-use Rattle.sat_core.proofs.ScanLemmas.{quiet_by_two}
+use Rattle.sat_core.proofs.QuietLemmas.{quiet_by_two}
 use Rattle.sat_core.proofs.StepLemmas.{holds_before, place_before}
 
 pub contains_cases : (xs : List ℕ) (x : ℕ) → Contains xs x ⊎ (¬ Contains xs x)
@@ -46,7 +46,7 @@ IsNew-unit clauses assigned line literal closed unit k d h part =
 
 module _ (variables : ℕ) (steps : List Step) (roles : List Role) (fit : EachStep (Fits variables) steps) (long : length roles ≡ length steps) where
   -- before its step, the negation of a literal is open
-  open_later : (limit at : ℕ) → limit ≤ at → at < length steps → IsOpen (literals_of_steps (take limit steps)) (negation (step_at steps at).literal)
+  pub open_later : (limit at : ℕ) → limit ≤ at → at < length steps → IsOpen (literals_of_steps (take limit steps)) (negation (step_at steps at).literal)
   open_later limit at h k = (
     λ c. let (j, l, e) = place_before steps limit (negation (step_at steps at).literal) (omega arith) c in step_opposed variables steps fit j at (omega arith) k e,
     λ c.

@@ -2,11 +2,13 @@ pub mod ChoiceLemmas
 pub mod FollowLemmas
 pub mod GatherLemmas
 pub mod LearnLemmas
+pub mod LineLemmas
 pub mod Negations
 pub mod SearchLemmas
 pub mod StartLemmas
 pub mod StepLemmas
 pub mod TrailLemmas
+pub mod TurnLemmas
 pub mod ValueLemmas
 pub mod WaitLemmas
 pub mod WatchLemmas
@@ -14,7 +16,8 @@ pub mod MoveLemmas
 pub mod MoreLemmas
 pub mod PassLemmas
 pub mod PlaceLemmas
+pub mod PrepareLemmas
 pub mod ProgressLemmas
 pub mod ResolveLemmas
 pub mod RoleLemmas
-pub mod ScanLemmas
+pub mod QuietLemmas

@@ -17,7 +17,7 @@ use Rattle.sat_core.proofs.WatchLemmas.{rests_push, literals-push, watched_push,
 use Rattle.sat_core.proofs.WaitLemmas.{waits_pushed, waits_here, each_pushed, length_pushed}
 
 -- a fact of each clause and its pair, and of one more
-by_number : (P : List ℕ → Pair → ℕ → Type 0) (clauses : List (List ℕ)) (line : List ℕ) (pairs : List Pair) (pair : Pair) → length pairs ≡ length clauses → ((number : ℕ) → number < length clauses → P (block_at clauses number) (pair_at pairs number) number) → P line pair (length clauses) → (number : ℕ) → number < length (clauses ++ line ∷ []) → P (block_at (clauses ++ line ∷ []) number) (pair_at (pairs ++ pair ∷ []) number) number
+pub by_number : (P : List ℕ → Pair → ℕ → Type 0) (clauses : List (List ℕ)) (line : List ℕ) (pairs : List Pair) (pair : Pair) → length pairs ≡ length clauses → ((number : ℕ) → number < length clauses → P (block_at clauses number) (pair_at pairs number) number) → P line pair (length clauses) → (number : ℕ) → number < length (clauses ++ line ∷ []) → P (block_at (clauses ++ line ∷ []) number) (pair_at (pairs ++ pair ∷ []) number) number
 by_number P clauses line pairs pair count each here number h = elim (cases_lt number (length clauses)) [
   | inl k ↦ subst (λ (s : List ℕ). P s (pair_at (pairs ++ pair ∷ []) number) number) (sym (get_or_append_left clauses (line ∷ []) [] number k))
       (subst (λ (p : Pair). P (block_at clauses number) p number) (sym (get_or_append_left pairs (pair ∷ []) (record { first = 0; second = 0 }) number (omega arith))) (each number k))

@@ -19,8 +19,6 @@ use Rattle.sat_core.specs.Progress.{progress}
 use Rattle.sat_core.specs.Quiet.{IsQuiet, IsClosed}
 use Rattle.sat_core.specs.Roles.{role_at, Derives, NoneKept, IsDecision}
 use Rattle.sat_core.specs.Choice.{IsSatisfied, ChoiceIs}
-use Rattle.sat_core.specs.Scan.{FoundIs}
-use Rattle.sat_core.specs.declared.scan.Found.TheVariants.{Nothing}
 use Rattle.sat_core.specs.Search.{IsSearch, AreSatisfied}
 use Rattle.sat_core.specs.Steps.{literals_of_steps, step_at, EachStep, Fits, IsCaused, CauseHolds}
 use Rattle.sat_core.specs.Trail.{Steps}
@@ -69,7 +67,7 @@ kept_after clauses steps roles conflict decision caused within derives fresh h d
     closed_at Decision decided holds = holds
     closed_at (Clause number) decided holds = absurd decided
 
-known-push : (input : ClauseList) (log : List Line) (line : Line) → known_clauses input (log ++ line ∷ []) ≡ known_clauses input log ++ line.literals ∷ []
+pub known-push : (input : ClauseList) (log : List Line) (line : Line) → known_clauses input (log ++ line ∷ []) ≡ known_clauses input log ++ line.literals ∷ []
 known-push input log line =
     ap (λ (s : List (List ℕ)). input.clauses ++ s) (map-append (λ (l : Line). l.literals) log (line ∷ [])) ∙ sym (append_assoc input.clauses (literals_of log) (line.literals ∷ []))
 
@@ -191,13 +189,17 @@ module _ (input : ClauseList) (log : List Line) (trail : Steps) (roles : List Ro
       }
 
   -- the same, of what the code writes
-  pub search_learned : (new_log : List Line) (literals hints : List ℕ) (shorter longer : Steps) (literal number : ℕ) → literals ≡ the_line.literals → hints ≡ the_line.hints → new_log ≡ log ++ (record { literals = literals; hints = hints }) ∷ [] → shorter ≡ record trail { steps = take cut trail.steps } → literal ≡ the_step.literal → number ≡ length (known_clauses input log) → longer ≡ record shorter { steps = shorter.steps ++ (record { literal = literal; cause = Clause number }) ∷ [] } → Advances input (progress input.variables trail.steps) new_log longer
-  search_learned new_log literals hints shorter longer literal number e1 e2 e3 e4 e5 e6 e7 =
-      let l : new_log ≡ log ++ the_line ∷ [] = e3 ∙ ap (λ (x : List ℕ). log ++ (record { literals = x; hints = hints }) ∷ []) e1 ∙ ap (λ (x : List ℕ). log ++ (record { literals = the_line.literals; hints = x }) ∷ []) e2 in
-      let t : longer ≡ record trail { steps = take cut trail.steps ++ the_step ∷ [] } = e7
+  pub log_written : (new_log : List Line) (literals hints : List ℕ) → literals ≡ the_line.literals → hints ≡ the_line.hints → new_log ≡ log ++ (record { literals = literals; hints = hints }) ∷ [] → new_log ≡ log ++ the_line ∷ []
+  log_written new_log literals hints e1 e2 e3 = e3 ∙ ap (λ (x : List ℕ). log ++ (record { literals = x; hints = hints }) ∷ []) e1 ∙ ap (λ (x : List ℕ). log ++ (record { literals = the_line.literals; hints = x }) ∷ []) e2
+
+  pub steps_written : (shorter longer : Steps) (literal number : ℕ) → shorter ≡ record trail { steps = take cut trail.steps } → literal ≡ the_step.literal → number ≡ length (known_clauses input log) → longer ≡ record shorter { steps = shorter.steps ++ (record { literal = literal; cause = Clause number }) ∷ [] } → longer ≡ record trail { steps = take cut trail.steps ++ the_step ∷ [] }
+  steps_written shorter longer literal number e4 e5 e6 e7 = e7
       ∙ ap (λ (x : Steps). record x { steps = x.steps ++ (record { literal = literal; cause = Clause number }) ∷ [] }) e4
       ∙ ap (λ (x : ℕ). record trail { steps = take cut trail.steps ++ (record { literal = x; cause = Clause number }) ∷ [] }) e5
-      ∙ ap (λ (x : ℕ). record trail { steps = take cut trail.steps ++ (record { literal = the_step.literal; cause = Clause x }) ∷ [] }) e6 in
+      ∙ ap (λ (x : ℕ). record trail { steps = take cut trail.steps ++ (record { literal = the_step.literal; cause = Clause x }) ∷ [] }) e6
+
+  pub search_learned : (new_log : List Line) (longer : Steps) → new_log ≡ log ++ the_line ∷ [] → longer ≡ record trail { steps = take cut trail.steps ++ the_step ∷ [] } → Advances input (progress input.variables trail.steps) new_log longer
+  search_learned new_log longer l t =
       subst (λ (x : List Line). Advances input (progress input.variables trail.steps) x longer) (sym l)
       (subst (λ (x : Steps). Advances input (progress input.variables trail.steps) (log ++ the_line ∷ []) x) (sym t) search_learn)
 
@@ -222,9 +224,6 @@ input_known input log number h = (get_or_append_left input.clauses (literals_of 
 
 pub known_count : (input : ClauseList) (log : List Line) → length (known_clauses input log) ≡ length input.clauses + length log
 known_count input log = length-append input.clauses (literals_of log) ∙ ap (λ (n : ℕ). length input.clauses + n) (length-map log (λ (l : Line). l.literals))
-
-pub closed_here : (variables : ℕ) (clauses : List (List ℕ)) (assigned : List ℕ) → FoundIs variables clauses assigned 0 (length clauses) Nothing → IsClosed clauses assigned
-closed_here variables clauses assigned found k d h = subst (λ (s : List ℕ). IsQuiet assigned s) (get_or_default clauses k [] d h) (found k (omega arith) h)
 
 pub satisfied_here : (input : ClauseList) (log : List Line) (trail : Steps) → IsSearch input log trail → ChoiceIs trail.variables (literals_of_steps trail.steps) input.clauses (length input.clauses) None → AreSatisfied input trail
 satisfied_here input log trail search choice = record {

@@ -19,7 +19,7 @@ use Rattle.sat_core.specs.Watches.{pair_at, IsPair, IsAwake, Rests, EachRests, W
 use Rattle.sat_core.proofs.LearnLemmas.{contains_cases}
 use Rattle.sat_core.proofs.Negations.{negation-negation}
 use Rattle.sat_core.proofs.PlaceLemmas.{steps_consistent}
-use Rattle.sat_core.proofs.ScanLemmas.{quiet_by_true, quiet_by_two}
+use Rattle.sat_core.proofs.QuietLemmas.{quiet_by_true, quiet_by_two}
 use Rattle.sat_core.proofs.StepLemmas.{holds_at, place_before, EachStep-push, EachStep-take}
 use Rattle.sat_core.proofs.TrailLemmas.{step_at_left}
 use Rattle.sat_core.proofs.WaitLemmas.{waits_set, waits_next, waits_none, waits_from, waits_pushed, waits_here, length_pushed, list_same, list_other, each_with, each_set, each_pushed, waits_moved, waits_kept, waits_arrived, each_moved, length_moved, moved_list, removed_length}

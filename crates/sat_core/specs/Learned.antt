@@ -1,5 +1,5 @@
 -- The line that is learned at a conflict.
-use Rattle.std.specs.Prelude.{◌≡◌, ◌⊎◌, ◌<◌, ◌≤◌, ℕ, List, [], ◌∷◌, ◌++◌, length}
+use Rattle.std.specs.Prelude.{◌≡◌, ◌⊎◌, ◌<◌, ◌≤◌, ℕ, List, [], ◌∷◌, ◌++◌, length, take}
 use Rattle.region_pool.specs.Literals.{negation}
 use Rattle.region_pool.specs.Log.{Line}
 use Rattle.sat_core.specs.declared.roles.Role.{Role}
@@ -8,7 +8,9 @@ use Rattle.sat_core.specs.declared.trail.Cause.{Cause}
 use Rattle.sat_core.specs.declared.trail.Cause.TheVariants.{Decision, Clause}
 use Rattle.sat_core.specs.declared.trail.Step.{Step}
 use Rattle.sat_core.specs.Roles.{role_at, IsDecision}
-use Rattle.sat_core.specs.Steps.{step_at}
+use Rattle.sat_core.specs.declared.watching.Pair.{Pair}
+use Rattle.sat_core.specs.Steps.{literals_of_steps, step_at}
+use Rattle.sat_core.specs.Watches.{IsPair, IsAwake}
 
 -- what a function gives for each step and its role, one after another
 abbrev pub gather : (Role → Step → List ℕ) → List Step → List Role → List ℕ
@@ -48,3 +50,9 @@ pub record IsAsserting (steps : List Step) (roles : List Role) (asserted cut : �
   pub others : (at : ℕ) → role_at roles at ≡ Kept → (at ≡ asserted) ⊎ (at < cut)
   pub decided : IsDecision (step_at steps cut).cause
   pub holds : (at : ℕ) → at < cut → IsDecision (step_at steps at).cause → (top : ℕ) × (at ≤ top) × (top < cut) × (role_at roles top ≡ Kept)
+
+-- two literals of the line that are watched: that of the asserted step, and one that was not false at any decision before the cut
+pub record IsLinePair (steps : List Step) (roles : List Role) (asserted cut : ℕ) (pair : Pair) : Type 0 where
+  pub first : pair.first ≡ negation (step_at steps asserted).literal
+  pub members : IsPair (gather literals_of_role steps roles) pair
+  pub awake : (at : ℕ) → at < cut → IsDecision (step_at steps at).cause → IsAwake (literals_of_steps (take at steps)) pair

@@ -3,10 +3,10 @@ pub mod Choice
 pub mod Known
 pub mod Learned
 pub mod Passing
+pub mod Preparing
 pub mod Progress
 pub mod Quiet
 pub mod Roles
-pub mod Scan
 pub mod Search
 pub mod Steps
 pub mod Trail

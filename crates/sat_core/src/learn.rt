@@ -4,14 +4,15 @@ ghost use Rattle.std.specs.Prelude.{◌≡◌, ℕ, ◌+◌, ◌<◌, ◌≤◌,
 ghost use Rattle.region_pool.specs.Blocks.{block_at};
 ghost use Rattle.region_pool.specs.Refutation.{IsFalsified};
 ghost use Rattle.sat_core.specs.Known.{known_clauses};
-ghost use Rattle.sat_core.specs.Learned.{gather, literals_of_role, hints_of_role, IsAsserting};
+ghost use Rattle.sat_core.specs.Learned.{gather, literals_of_role, hints_of_role, IsAsserting, IsLinePair};
 ghost use Rattle.sat_core.specs.Roles.{role_at, Derives, NoneKept, IsLastKept, IsLastDecision};
 ghost use Rattle.sat_core.specs.Search.{IsSearch};
-ghost use Rattle.sat_core.specs.Steps.{literals_of_steps};
+ghost use Rattle.sat_core.specs.Steps.{literals_of_steps, EachStep, Fits};
 
+use crate::known::known_clause;
 use crate::roles::{Role, blame, first_decision, last_kept};
-use crate::scan::known_clause;
 use crate::trail::{Cause, Trail, negation_of};
+use crate::watching::Pair;
 use region_pool::{Clauses, Log};
 use vk_core::NoMemory;
 
@@ -96,16 +97,39 @@ pub fn write_hints(
     Ok(())
 }
 
-/// The place where the steps are cut: the first decision after the last kept step before the last decision.
-pub fn cut_of(trail: &Trail, roles: &[Role], decision: usize, asserted: usize) -> usize
+/// Where the steps are cut, and the literals of the learned line that are watched.
+#[derive(Clone, Copy, Debug, PartialEq, Eq)]
+pub struct Cut {
+    pub at: usize,
+    pub pair: Pair,
+}
+
+/// The place where the steps are cut: the first decision after the last kept step before the last decision. The line watches
+/// the literals of the asserted step and of that one.
+pub fn cut_of(trail: &Trail, roles: &[Role], decision: usize, asserted: usize) -> Cut
+    requires fit { EachStep (Fits trail.now.variables) trail.now.steps }
     requires long { length roles.now ≡ length trail.now.steps }
     requires decision { IsLastDecision trail.now.steps decision }
     requires asserted { IsLastKept roles.now decision (length trail.now.steps) asserted }
     requires only { NoneKept roles.now decision asserted }
-    ensures { IsAsserting trail.now.steps roles.now asserted result }
+    ensures asserting { IsAsserting trail.now.steps roles.now asserted result.at }
+    ensures pair { IsLinePair trail.now.steps roles.now asserted result.at result.pair }
 {
+    let first = negation_of(trail.step(asserted).literal);
     match last_kept(roles, 0, decision) {
-        Some(top) => first_decision(trail, top + 1, decision),
-        None => first_decision(trail, 0, decision),
+        Some(top) => Cut {
+            at: first_decision(trail, top + 1, decision),
+            pair: Pair {
+                first,
+                second: negation_of(trail.step(top).literal),
+            },
+        },
+        None => Cut {
+            at: first_decision(trail, 0, decision),
+            pair: Pair {
+                first,
+                second: first,
+            },
+        },
     }
 }

@@ -3,10 +3,11 @@
 #![tactic(auto)]
 
 mod choice;
+mod known;
 mod learn;
+mod prepare;
 mod propagate;
 mod roles;
-mod scan;
 mod search;
 mod solver;
 mod trail;

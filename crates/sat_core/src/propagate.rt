@@ -10,7 +10,7 @@ ghost use Rattle.sat_core.specs.Progress.{progress};
 ghost use Rattle.sat_core.specs.Steps.{literals_of_steps};
 ghost use Rattle.watch_lists.specs.Lists.{list_at};
 
-use crate::scan::known_clause;
+use crate::known::known_clause;
 use crate::trail::{Cause, Trail, negation_of};
 use crate::watching::{Pair, Watching};
 use region_pool::{Clauses, Log};

@@ -9,7 +9,7 @@ ghost use Rattle.sat_core.specs.Roles.{role_at, Marks, Blames, Resolves, Keeps, 
 ghost use Rattle.sat_core.specs.Search.{IsSearch};
 ghost use Rattle.sat_core.specs.Steps.{literals_of_steps, step_at};
 
-use crate::scan::known_clause;
+use crate::known::known_clause;
 use crate::trail::{Cause, Trail, negation_of};
 use region_pool::{Clauses, Log};
 

@@ -1,20 +1,23 @@
 //! The search: each turn adds a step, learns a line, or has the answer.
 
-ghost use Rattle.std.specs.Prelude.{◌≡◌, ◌<◌, length, OnOk, IfOk};
+ghost use Rattle.std.specs.Prelude.{◌≡◌, ℕ, ◌<◌, length, OnOk, IfOk, MatchBool};
 ghost use Rattle.region_pool.specs.Blocks.{block_at};
-ghost use Rattle.region_pool.specs.Refutation.{IsFalsified, Refutes};
+ghost use Rattle.region_pool.specs.Refutation.{Refutes};
 ghost use Rattle.sat_core.specs.Known.{known_clauses};
+ghost use Rattle.sat_core.specs.Preparing.{IsPreparing};
 ghost use Rattle.sat_core.specs.Progress.{progress};
 ghost use Rattle.sat_core.specs.Roles.{Derives, NoneKept, IsLastDecision, NoneDecided};
 ghost use Rattle.sat_core.specs.Search.{IsSearch};
-ghost use Rattle.sat_core.specs.Steps.{literals_of_steps};
-ghost use Rattle.sat_core.specs.Turn.{Advances, TurnIs};
+ghost use Rattle.sat_core.specs.Passing.{IsConflict};
+ghost use Rattle.sat_core.specs.Turn.{Goes, TurnIs, AreAllWatched, IsWatchingAll};
 
 use crate::choice::choice_of;
 use crate::learn::{blame_conflict, cut_of, write_hints, write_literals};
+use crate::prepare::prepare;
+use crate::propagate::propagate;
 use crate::roles::{Role, analyze, last_decision, resolve_below};
-use crate::scan::{Found, find};
-use crate::trail::{Cause, Trail, negation_of};
+use crate::trail::{Cause, Trail};
+use crate::watching::Watching;
 use region_pool::{Clauses, Log};
 use std::alloc::Global;
 use vk_core::NoMemory;
@@ -37,8 +40,9 @@ pub enum Turn {
 pub struct Search {
     pub log: Log,
     pub trail: Trail,
-    // The clause that propagation looks at first.
-    pub from: usize,
+    pub watching: Watching,
+    // How many steps propagation has seen.
+    pub front: usize,
     // What an analysis of a conflict writes.
     pub roles: Vec<Role>,
     pub literals: Vec<u64>,
@@ -48,12 +52,16 @@ pub struct Search {
 impl Search {
     /// A search that has learned nothing yet.
     pub fn new(alloc: Global, clauses: &Clauses) -> Result<Search, NoMemory>
-        ensures { IfOk result (λ search. IsSearch clauses.now search.log search.trail) }
+        ensures prepared { IfOk result (λ search. IsPreparing clauses.now search.log search.trail search.watching.pairs.items search.watching.lists 0) }
+        ensures front { IfOk result (λ search. search.front ≡ 0) }
     {
+        let trail = Trail::new(alloc, clauses.variables())?;
+        let watching = Watching::new(alloc, 2 * trail.variables())?;
         Ok(Search {
             log: Log::new(alloc),
-            trail: Trail::new(alloc, clauses.variables())?,
-            from: 0,
+            trail,
+            watching,
+            front: 0,
             roles: Vec::new(alloc),
             literals: Vec::new(alloc),
             hints: Vec::new(alloc),
@@ -67,7 +75,8 @@ impl Search {
         let Search {
             log,
             trail: _,
-            from: _,
+            watching: _,
+            front: _,
             roles: _,
             literals: _,
             hints: _,
@@ -99,6 +108,34 @@ fn refute(clauses: &Clauses, search: &mut Search, conflict: usize) -> Result<(),
     Ok(())
 }
 
+/// Watches the clauses. It answers whether they are refuted already.
+pub fn begin(clauses: &Clauses, search: &mut Search) -> Result<bool, NoMemory>
+    requires prepared { IsPreparing clauses.now search.old.log search.old.trail search.old.watching.pairs.items search.old.watching.lists 0 }
+    requires front { search.old.front ≡ 0 }
+    ensures { IfOk result (λ refuted. MatchBool refuted (Refutes clauses.now search.new.log) (IsWatchingAll clauses.now search.new)) }
+{
+    let found = prepare(
+        clauses,
+        &search.log,
+        &mut search.trail,
+        &mut search.watching,
+    )?;
+    match found {
+        None => Ok(false),
+        Some(conflict) => {
+            blame_conflict(
+                clauses,
+                &search.log,
+                &search.trail,
+                &mut search.roles,
+                conflict,
+            )?;
+            refute(clauses, search, conflict)?;
+            Ok(true)
+        }
+    }
+}
+
 /// Learns a line, and goes back to where it forces a literal.
 fn learn(
     clauses: &Clauses,
@@ -107,12 +144,13 @@ fn learn(
     decision: usize,
 ) -> Result<(), NoMemory>
     requires search { IsSearch clauses.now search.old.log search.old.trail }
+    requires watches { AreAllWatched clauses.now search.old }
     requires conflict { conflict < length (known_clauses clauses.now search.old.log) }
     requires derives { Derives (known_clauses clauses.now search.old.log) (block_at (known_clauses clauses.now search.old.log) conflict)
         search.old.trail.steps search.old.roles.items }
     requires decision { IsLastDecision search.old.trail.steps decision }
     requires kept { ¬ NoneKept search.old.roles.items decision (length search.old.trail.steps) }
-    ensures { OnOk result (Advances clauses.now (progress clauses.now.variables search.old.trail.steps) search.new.log search.new.trail) }
+    ensures { OnOk result (Goes clauses.now (progress clauses.now.variables search.old.trail.steps) search.new) }
 {
     let asserted = analyze(
         clauses,
@@ -124,11 +162,12 @@ fn learn(
     write_literals(&search.trail, &search.roles, &mut search.literals)?;
     write_hints(&search.trail, &search.roles, conflict, &mut search.hints)?;
     let cut = cut_of(&search.trail, &search.roles, decision, asserted);
-    let literal = negation_of(search.trail.step(asserted).literal);
     let number = clauses.len() + search.log.len();
     search.log.add(&search.literals, &search.hints)?;
-    search.trail.cut(cut);
-    search.trail.push(literal, Cause::Clause(number))?;
+    search.trail.cut(cut.at);
+    search.trail.push(cut.pair.first, Cause::Clause(number))?;
+    search.watching.add(cut.pair)?;
+    search.front = cut.at;
     Ok(())
 }
 
@@ -140,10 +179,9 @@ fn meet_conflict(
     conflict: usize,
 ) -> Result<Turn, NoMemory>
     requires search { IsSearch clauses.now search.old.log search.old.trail }
-    requires conflict { conflict < length (known_clauses clauses.now search.old.log) }
-    requires falsified { IsFalsified (literals_of_steps search.old.trail.steps)
-        (block_at (known_clauses clauses.now search.old.log) conflict) }
-    ensures { IfOk result (TurnIs clauses.now budget (progress clauses.now.variables search.old.trail.steps) search.new.log search.new.trail) }
+    requires watches { AreAllWatched clauses.now search.old }
+    requires conflict { IsConflict clauses.now search.old.log search.old.trail conflict }
+    ensures { IfOk result (TurnIs clauses.now budget (progress clauses.now.variables search.old.trail.steps) search.new) }
 {
     blame_conflict(
         clauses,
@@ -167,24 +205,42 @@ fn meet_conflict(
     }
 }
 
-/// Propagates one literal, decides one, or meets a conflict.
-pub fn take_turn(clauses: &Clauses, budget: u64, search: &mut Search) -> Result<Turn, NoMemory>
-    requires { IsSearch clauses.now search.old.log search.old.trail }
-    ensures { IfOk result (TurnIs clauses.now budget (progress clauses.now.variables search.old.trail.steps) search.new.log search.new.trail) }
+/// Decides a literal, where propagation is complete.
+fn decide(clauses: &Clauses, search: &mut Search) -> Result<Turn, NoMemory>
+    requires watching { IsWatchingAll clauses.now search.old }
+    requires complete { search.old.front ≡ length search.old.trail.steps }
+    ensures { (budget : ℕ) → IfOk result (TurnIs clauses.now budget (progress clauses.now.variables search.old.trail.steps) search.new) }
 {
-    match find(clauses, &search.log, &search.trail, search.from) {
-        Found::Conflict(number) => meet_conflict(clauses, budget, search, number),
-        Found::Forced(literal, number) => {
-            search.from = number;
-            search.trail.push(literal, Cause::Clause(number))?;
+    match choice_of(clauses, &search.trail) {
+        Some(literal) => {
+            search.trail.push(literal, Cause::Decision)?;
             Ok(Turn::Going)
         }
-        Found::Nothing => match choice_of(clauses, &search.trail) {
-            Some(literal) => {
-                search.trail.push(literal, Cause::Decision)?;
-                Ok(Turn::Going)
-            }
-            None => Ok(Turn::Satisfied),
-        },
+        None => Ok(Turn::Satisfied),
+    }
+}
+
+/// Propagates, and decides a literal or meets a conflict.
+pub fn take_turn(clauses: &Clauses, budget: u64, search: &mut Search) -> Result<Turn, NoMemory>
+    requires { IsWatchingAll clauses.now search.old }
+    ensures { IfOk result (TurnIs clauses.now budget (progress clauses.now.variables search.old.trail.steps) search.new) }
+{
+    let found = propagate(
+        clauses,
+        &search.log,
+        &mut search.trail,
+        &mut search.watching,
+        search.front,
+    )?;
+    match found {
+        Some(conflict) => {
+            let turn = meet_conflict(clauses, budget, search, conflict)?;
+            Ok(turn)
+        }
+        None => {
+            search.front = search.trail.len();
+            let turn = decide(clauses, search)?;
+            Ok(turn)
+        }
     }
 }

@@ -2,7 +2,7 @@ ghost use Rattle.std.specs.Prelude.{◌≡◌, ◌+◌, ◌-◌, ◌^◌, ◌≤
 ghost use Rattle.sat_core.specs.Answer.{AnswerIs, RefutesSoundly, effort_after, IsNotSpent};
 ghost use Rattle.sat_core.specs.Values.{ValuesAre};
 
-use crate::search::{Search, Turn, take_turn};
+use crate::search::{Search, Turn, begin, take_turn};
 use crate::trail::Trail;
 use region_pool::{Clauses, Log};
 use std::alloc::Global;
@@ -85,6 +85,9 @@ pub fn solve(
     ensures err { OnErr result (effort.new ≡ effort.old) }
 {
     let mut search = Search::new(alloc, clauses)?;
+    if begin(clauses, &mut search)? {
+        return Ok(SatAnswer::Unsat(search.into_log()));
+    }
     loop {
         match take_turn(clauses, budget, &mut search)? {
             Turn::Going => {}

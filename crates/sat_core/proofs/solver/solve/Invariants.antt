@@ -1,11 +1,11 @@
 use Rattle.std.proofs.Common.{◌≡◌, ◌-◌, ◌^◌}
 use Rattle.sat_core.specs.Progress.{progress}
-use Rattle.sat_core.specs.Search.{IsSearch}
+use Rattle.sat_core.specs.Turn.{IsWatchingAll}
 use Rattle.sat_core.proofs.solver.solve.Given as goal
 
 abbrev pub invariant-loop-search : goal.invariant-loop-search
 invariant-loop-search l = record {
-  search : IsSearch l.clauses l.search.log l.search.trail;
+  search : IsWatchingAll l.clauses l.search;
   effort : l.effort ≡ l.fn.effort;
 }
 

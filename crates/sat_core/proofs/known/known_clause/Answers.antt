@@ -3,7 +3,7 @@ use Rattle.std.proofs.lemmas.List.{length-map, get_or-map}
 use Rattle.region_pool.specs.Clauses.{AreLiterals}
 use Rattle.region_pool.specs.Log.{Line}
 use Rattle.region_pool.specs.Refutation.{literals_of}
-use Rattle.sat_core.proofs.scan.known_clause.Goals as goal
+use Rattle.sat_core.proofs.known.known_clause.Goals as goal
 
 pub returns-else-number-count-clause-literals : goal.returns-else-number-count-clause-literals
 returns-else-number-count-clause-literals c =
