@@ -5,6 +5,7 @@
 mod choice;
 mod known;
 mod learn;
+mod order;
 mod prepare;
 mod propagate;
 mod roles;

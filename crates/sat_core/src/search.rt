@@ -13,6 +13,7 @@ ghost use Rattle.sat_core.specs.Turn.{Goes, TurnIs, AreAllWatched, IsWatchingAll
 
 use crate::choice::choice_of;
 use crate::learn::{blame_conflict, cut_of, write_hints, write_literals};
+use crate::order::{Order, put_steps_back, raise_steps};
 use crate::prepare::prepare;
 use crate::propagate::propagate;
 use crate::roles::{Role, analyze, last_decision, resolve_below};
@@ -43,6 +44,7 @@ pub struct Search {
     pub watching: Watching,
     // How many steps propagation has seen.
     pub front: usize,
+    pub order: Order,
     // What an analysis of a conflict writes.
     pub roles: Vec<Role>,
     pub literals: Vec<u64>,
@@ -57,11 +59,13 @@ impl Search {
     {
         let trail = Trail::new(alloc, clauses.variables())?;
         let watching = Watching::new(alloc, 2 * trail.variables())?;
+        let order = Order::new(alloc, trail.variables())?;
         Ok(Search {
             log: Log::new(alloc),
             trail,
             watching,
             front: 0,
+            order,
             roles: Vec::new(alloc),
             literals: Vec::new(alloc),
             hints: Vec::new(alloc),
@@ -77,6 +81,7 @@ impl Search {
             trail: _,
             watching: _,
             front: _,
+            order: _,
             roles: _,
             literals: _,
             hints: _,
@@ -164,6 +169,8 @@ fn learn(
     let cut = cut_of(&search.trail, &search.roles, decision, asserted);
     let number = clauses.len() + search.log.len();
     search.log.add(&search.literals, &search.hints)?;
+    raise_steps(&mut search.order, &search.trail, &search.roles);
+    put_steps_back(&mut search.order, &search.trail, cut.at)?;
     search.trail.cut(cut.at);
     search.trail.push(cut.pair.first, Cause::Clause(number))?;
     search.watching.add(cut.pair)?;
@@ -205,8 +212,8 @@ fn meet_conflict(
     }
 }
 
-/// Decides a literal, where propagation is complete.
-fn decide(clauses: &Clauses, search: &mut Search) -> Result<Turn, NoMemory>
+/// Decides an open literal of a clause that is not satisfied, or finds that there is none.
+fn decide_by_scan(clauses: &Clauses, search: &mut Search) -> Result<Turn, NoMemory>
     requires watching { IsWatchingAll clauses.now search.old }
     requires complete { search.old.front ≡ length search.old.trail.steps }
     ensures { (budget : ℕ) → IfOk result (TurnIs clauses.now budget (progress clauses.now.variables search.old.trail.steps) search.new) }
@@ -217,6 +224,24 @@ fn decide(clauses: &Clauses, search: &mut Search) -> Result<Turn, NoMemory>
             Ok(Turn::Going)
         }
         None => Ok(Turn::Satisfied),
+    }
+}
+
+/// Decides a literal, where propagation is complete.
+fn decide(clauses: &Clauses, search: &mut Search) -> Result<Turn, NoMemory>
+    requires watching { IsWatchingAll clauses.now search.old }
+    requires complete { search.old.front ≡ length search.old.trail.steps }
+    ensures { (budget : ℕ) → IfOk result (TurnIs clauses.now budget (progress clauses.now.variables search.old.trail.steps) search.new) }
+{
+    match search.order.suggest(&search.trail) {
+        Some(literal) => {
+            search.trail.push(literal, Cause::Decision)?;
+            Ok(Turn::Going)
+        }
+        None => {
+            let turn = decide_by_scan(clauses, search)?;
+            Ok(turn)
+        }
     }
 }
 
