@@ -10,6 +10,7 @@ mod prepare;
 mod propagate;
 mod roles;
 mod search;
+mod shorten;
 mod solver;
 mod trail;
 mod watching;

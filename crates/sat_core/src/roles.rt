@@ -10,6 +10,7 @@ ghost use Rattle.sat_core.specs.Search.{IsSearch};
 ghost use Rattle.sat_core.specs.Steps.{literals_of_steps, step_at};
 
 use crate::known::known_clause;
+use crate::shorten::shorten;
 use crate::trail::{Cause, Trail, negation_of};
 use region_pool::{Clauses, Log};
 
@@ -64,7 +65,7 @@ pub fn last_kept(roles: &[Role], low: usize, high: usize) -> Option<usize>
 }
 
 /// Resolves a step that was forced.
-fn resolve(clauses: &Clauses, log: &Log, trail: &Trail, roles: &mut [Role], at: usize)
+pub fn resolve(clauses: &Clauses, log: &Log, trail: &Trail, roles: &mut [Role], at: usize)
     requires search { IsSearch clauses.now log.now trail.now }
     requires long { length roles.old ≡ length trail.now.steps }
     requires at { at < length trail.now.steps }
@@ -192,7 +193,8 @@ pub fn first_decision(trail: &Trail, low: usize, last: usize) -> usize
     at
 }
 
-/// Resolves steps until one alone from the last decision on is kept, which it answers, and none before the first decision.
+/// Resolves steps until one alone from the last decision on is kept, which it answers, and none before the first decision
+/// or that the others imply.
 pub fn analyze(
     clauses: &Clauses,
     log: &Log,
@@ -210,6 +212,7 @@ pub fn analyze(
 {
     let asserted = resolve_to_one(clauses, log, trail, roles, decision);
     let first = first_decision(trail, 0, decision);
+    shorten(clauses, log, trail, roles, first, decision);
     resolve_below(clauses, log, trail, roles, first);
     asserted
 }
