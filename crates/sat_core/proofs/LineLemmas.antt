@@ -1,5 +1,5 @@
 -- The clauses are watched after a line was learned.
-use Rattle.std.proofs.Common.{◌≡◌, ◌≢◌, ℕ, ◌+◌, ◌<◌, ◌≤◌, List, [], ◌∷◌, ◌++◌, length, take, Contains, inl, inr, refl, sym, ap, ◌∙◌, subst, arith}
+use Rattle.std.proofs.Common.{◌≡◌, ℕ, ◌+◌, ◌<◌, ◌≤◌, List, [], ◌∷◌, ◌++◌, length, take, Contains, inl, inr, refl, sym, ap, ◌∙◌, subst, arith}
 use Rattle.std.proofs.lemmas.Bool.{cases_lt}
 use Rattle.std.proofs.lemmas.List.{take-take, get_or-take, length-take-le}
 use Rattle.std.proofs.lemmas.List.Elements.{Contains-push}
@@ -12,9 +12,9 @@ use Rattle.sat_core.specs.declared.trail.Cause.TheVariants.{Decision, Clause}
 use Rattle.sat_core.specs.declared.trail.Step.{Step}
 use Rattle.sat_core.specs.declared.watching.Pair.{Pair}
 use Rattle.sat_core.specs.Learned.{gather, literals_of_role, IsAsserting, IsLinePair}
-use Rattle.sat_core.specs.Roles.{role_at, IsDecision, NoneDecided, IsLastDecision, IsLastKept, IsFirstDecision}
+use Rattle.sat_core.specs.Roles.{role_at, IsDecision, IsLastKept, IsFirstDecision}
 use Rattle.sat_core.specs.Steps.{literals_of_steps, step_at, EachStep, Fits}
-use Rattle.sat_core.specs.Watches.{IsPair, IsAwake, EachRests, AreWatched, IsFront, watched}
+use Rattle.sat_core.specs.Watches.{IsAwake, EachRests, AreWatched, IsFront, watched}
 use Rattle.sat_core.proofs.FollowLemmas.{kept_has}
 use Rattle.sat_core.proofs.LearnLemmas.{open_later}
 use Rattle.sat_core.proofs.MoreLemmas.{watched_more, front_more}

@@ -1,8 +1,7 @@
 -- One more clause is watched.
-use Rattle.std.proofs.Common.{◌≡◌, ◌≢◌, ◌⊎◌, ℕ, zero, ◌+◌, ◌*◌, ◌<◌, ◌≤◌, List, [], ◌∷◌, ◌++◌, length, take, Contains, inl, inr, refl, sym, ap, ◌∙◌, subst, arith}
+use Rattle.std.proofs.Common.{◌≡◌, ℕ, ◌<◌, List, [], ◌∷◌, ◌++◌, length, take, Contains, inl, inr, refl, sym, ◌∙◌, subst, arith}
 use Rattle.std.proofs.lemmas.Bool.{cases_lt}
-use Rattle.std.proofs.lemmas.List.{get_or_append_left, get_or_push, length_push, length-take-le, get_or-take, take-take}
-use Rattle.std.proofs.lemmas.List.Elements.{Contains-push}
+use Rattle.std.proofs.lemmas.List.{get_or_append_left, get_or_push, length_push}
 use Rattle.region_pool.specs.Blocks.{block_at}
 use Rattle.watch_lists.specs.declared.lists.Watch.{Watch}
 use Rattle.watch_lists.specs.Lists.{list_at}
@@ -13,7 +12,6 @@ use Rattle.sat_core.specs.declared.watching.Pair.{Pair}
 use Rattle.sat_core.specs.Roles.{IsDecision}
 use Rattle.sat_core.specs.Steps.{literals_of_steps, step_at}
 use Rattle.sat_core.specs.Watches.{pair_at, IsPair, IsAwake, Rests, EachRests, Waits, IsWatchOf, AreListed, RestsAt, AreWatched, IsFront, pushed, watched}
-use Rattle.sat_core.proofs.WatchLemmas.{rests_push, literals-push, watched_push, front_take}
 use Rattle.sat_core.proofs.WaitLemmas.{waits_pushed, waits_here, each_pushed, length_pushed}
 
 -- a fact of each clause and its pair, and of one more

@@ -1,21 +1,21 @@
 -- Steps of unit propagation.
-use Rattle.std.proofs.Common.{None, ◌≡◌, ◌≢◌, ◌⊎◌, ℕ, ◌+◌, ◌-◌, ◌*◌, ◌<◌, ◌≤◌, List, [], ◌∷◌, ◌++◌, length, get_or, set, take, All, Contains, inl, inr, refl, sym, ap, ◌∙◌, subst, arith, length-set, length-append}
-use Rattle.std.proofs.lemmas.List.{get_or_default, length_push}
+use Rattle.std.proofs.Common.{None, ◌≡◌, ◌≢◌, ◌⊎◌, ℕ, ◌+◌, ◌<◌, ◌≤◌, List, [], ◌∷◌, ◌++◌, length, get_or, set, take, All, Contains, inl, inr, refl, sym, ap, ◌∙◌, subst, arith, length-set}
+use Rattle.std.proofs.lemmas.List.{get_or_default}
 use Rattle.std.proofs.lemmas.List.Elements.{All-append, All-contains, Contains-push}
 use Rattle.region_pool.specs.Blocks.{block_at}
 use Rattle.region_pool.specs.Clauses.{ClauseList, IsLiteral, AreLiterals, HasLiterals}
 use Rattle.region_pool.specs.Literals.{negation}
 use Rattle.region_pool.specs.Log.{Line}
-use Rattle.region_pool.specs.Refutation.{IsFalse, IsOpen, IsFalsified, IsUnit, literals_of}
+use Rattle.region_pool.specs.Refutation.{IsFalse, IsOpen, IsUnit, literals_of}
 use Rattle.watch_lists.specs.declared.lists.Watch.{Watch}
 use Rattle.watch_lists.specs.Lists.{list_at, watch_at}
 use Rattle.sat_core.specs.declared.propagate.Place.{Place}
 use Rattle.sat_core.specs.declared.propagate.Visit.TheVariants.{Stays, Moves, Conflict}
-use Rattle.sat_core.specs.declared.trail.Cause.TheVariants.{Decision, Clause}
+use Rattle.sat_core.specs.declared.trail.Cause.TheVariants.{Clause}
 use Rattle.sat_core.specs.declared.trail.Step.{Step}
 use Rattle.sat_core.specs.declared.watching.Pair.{Pair}
 use Rattle.sat_core.specs.Known.{known_clauses, LinesFit}
-use Rattle.sat_core.specs.Passing.{IsRunning, IsAt, IsOtherOf, IsLookedAt, RunsOn, IsConflict, VisitIs, IsWatching, PropagationIs}
+use Rattle.sat_core.specs.Passing.{IsRunning, IsAt, IsOtherOf, IsLookedAt, RunsOn, VisitIs, IsWatching, PropagationIs}
 use Rattle.sat_core.specs.Progress.{progress}
 use Rattle.sat_core.specs.Steps.{literals_of_steps, step_at}
 use Rattle.sat_core.specs.Trail.{Steps}

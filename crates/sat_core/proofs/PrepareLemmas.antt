@@ -1,5 +1,5 @@
 -- Steps before the search.
-use Rattle.std.proofs.Common.{◌≡◌, ◌≢◌, ◌⊎◌, ℕ, zero, ◌+◌, ◌<◌, ◌≤◌, List, [], ◌∷◌, ◌++◌, length, take, All, Contains, inl, inr, refl, sym, ap, ◌∙◌, subst, arith}
+use Rattle.std.proofs.Common.{◌≡◌, ◌≢◌, ℕ, ◌+◌, ◌<◌, List, [], ◌∷◌, ◌++◌, length, take, All, Contains, inl, inr, refl, sym, ap, ◌∙◌, subst, arith}
 use Rattle.std.proofs.lemmas.Bool.{cases_lt}
 use Rattle.std.proofs.lemmas.List.{take_more, take_all, length_push, length-take-le, append-nil}
 use Rattle.std.proofs.lemmas.List.Elements.{All-contains, Contains-push}
@@ -13,13 +13,13 @@ use Rattle.sat_core.specs.declared.trail.Cause.TheVariants.{Decision, Clause}
 use Rattle.sat_core.specs.declared.trail.Step.{Step}
 use Rattle.sat_core.specs.declared.watching.Pair.{Pair}
 use Rattle.sat_core.specs.Known.{known_clauses}
-use Rattle.sat_core.specs.Passing.{IsWatching, IsConflict}
-use Rattle.sat_core.specs.Preparing.{IsPreparing, IsRefutable, IsFirstPair, IsForcedFrom, Settles}
+use Rattle.sat_core.specs.Passing.{IsWatching}
+use Rattle.sat_core.specs.Preparing.{IsPreparing, IsRefutable, IsFirstPair, Settles}
 use Rattle.sat_core.specs.Roles.{IsDecision, NoneDecided}
 use Rattle.sat_core.specs.Search.{IsSearch}
-use Rattle.sat_core.specs.Steps.{literals_of_steps, step_at}
+use Rattle.sat_core.specs.Steps.{literals_of_steps}
 use Rattle.sat_core.specs.Trail.{Steps}
-use Rattle.sat_core.specs.Watches.{pair_at, IsPair, Rests, EachRests, RestsAt, AreWatched, watched}
+use Rattle.sat_core.specs.Watches.{pair_at, Rests, EachRests, RestsAt, AreWatched, watched}
 use Rattle.sat_core.proofs.MoreLemmas.{watched_more, by_number}
 use Rattle.sat_core.proofs.PassLemmas.{known_fits}
 use Rattle.sat_core.proofs.SearchLemmas.{search_push, input_known}

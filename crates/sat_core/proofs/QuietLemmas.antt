@@ -1,7 +1,7 @@
 -- Clauses that propagation has nothing to do with.
 use Rattle.std.proofs.Common.{◌≡◌, ◌≢◌, ◌⊎◌, ℕ, List, Contains, inl, inr, sym, ◌∙◌, subst}
 use Rattle.std.proofs.lemmas.List.Elements.{All-contains}
-use Rattle.region_pool.specs.Refutation.{IsFalse, IsOpen, IsUnit}
+use Rattle.region_pool.specs.Refutation.{IsFalse, IsOpen}
 use Rattle.sat_core.specs.Quiet.{IsQuiet}
 
 pub quiet_by_true : (assigned clause : List ℕ) (literal : ℕ) → Contains clause literal → Contains assigned literal → (¬ IsFalse assigned literal) → IsQuiet assigned clause

@@ -1,5 +1,5 @@
 -- The clauses are watched after a turn.
-use Rattle.std.proofs.Common.{◌≡◌, ℕ, ◌+◌, ◌*◌, ◌<◌, ◌≤◌, List, [], ◌∷◌, ◌++◌, length, take, refl, sym, ap, ◌∙◌, subst, arith}
+use Rattle.std.proofs.Common.{◌≡◌, ℕ, ◌<◌, ◌≤◌, List, [], ◌∷◌, ◌++◌, length, take, sym, ap, ◌∙◌, subst, arith}
 use Rattle.region_pool.specs.Blocks.{block_at}
 use Rattle.region_pool.specs.Clauses.{ClauseList, IsLiteral}
 use Rattle.region_pool.specs.Literals.{negation}
@@ -11,13 +11,13 @@ use Rattle.sat_core.specs.declared.trail.Cause.TheVariants.{Decision, Clause}
 use Rattle.sat_core.specs.declared.trail.Step.{Step}
 use Rattle.sat_core.specs.declared.watching.Pair.{Pair}
 use Rattle.sat_core.specs.Known.{known_clauses}
-use Rattle.sat_core.specs.Learned.{gather, literals_of_role, line_of, IsAsserting, IsLinePair}
+use Rattle.sat_core.specs.Learned.{line_of, IsAsserting, IsLinePair}
 use Rattle.sat_core.specs.Passing.{IsWatching}
 use Rattle.sat_core.specs.Progress.{progress}
 use Rattle.sat_core.specs.Quiet.{IsClosed}
 use Rattle.sat_core.specs.Roles.{Derives}
 use Rattle.sat_core.specs.Search.{IsSearch}
-use Rattle.sat_core.specs.Steps.{literals_of_steps, step_at, EachStep, Fits}
+use Rattle.sat_core.specs.Steps.{literals_of_steps, step_at}
 use Rattle.sat_core.specs.Trail.{Steps}
 use Rattle.sat_core.specs.declared.search.Search.{Search}
 use Rattle.sat_core.specs.declared.search.Turn.{Turn}

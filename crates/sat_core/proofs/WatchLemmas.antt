@@ -1,28 +1,28 @@
 -- What the watched literals of clauses keep, when a step is added, a watch moves or a line is learned.
-use Rattle.std.proofs.Common.{◌≡◌, ◌≢◌, ◌⊎◌, ℕ, zero, ◌+◌, ◌*◌, ◌<◌, ◌≤◌, List, [], ◌∷◌, ◌++◌, length, get_or, set, take, Contains, inl, inr, refl, sym, ap, ◌∙◌, subst, arith, length-set}
-use Rattle.std.proofs.lemmas.Bool.{cases_lt, cases_eq}
-use Rattle.std.proofs.lemmas.List.{get_or-set_same, get_or-set_other, get_or_append_left, get_or_push, length_push, take_all, take_more, take-append-le, map-append, get_or_default, take-take, length-take-le}
-use Rattle.std.proofs.lemmas.List.Elements.{Contains-push_cases, Contains-append_left, Contains-push}
+use Rattle.std.proofs.Common.{◌≡◌, ◌≢◌, ◌⊎◌, ℕ, ◌+◌, ◌<◌, ◌≤◌, List, [], ◌∷◌, ◌++◌, length, set, take, Contains, inl, inr, sym, ap, ◌∙◌, subst, arith, length-set}
+use Rattle.std.proofs.lemmas.Bool.{cases_eq}
+use Rattle.std.proofs.lemmas.List.{length_push, take_all, take_more, take-append-le, map-append, get_or_default}
+use Rattle.std.proofs.lemmas.List.Elements.{Contains-push_cases, Contains-append_left}
 use Rattle.region_pool.specs.Blocks.{block_at}
 use Rattle.region_pool.specs.Literals.{negation}
-use Rattle.region_pool.specs.Refutation.{IsFalse, IsOpen, IsFalsified, IsUnit}
+use Rattle.region_pool.specs.Refutation.{IsFalse}
 use Rattle.watch_lists.specs.declared.lists.Watch.{Watch}
-use Rattle.watch_lists.specs.Lists.{list_at, watch_at, swap_removed}
+use Rattle.watch_lists.specs.Lists.{list_at, watch_at}
 use Rattle.sat_core.specs.declared.trail.Cause.{Cause}
-use Rattle.sat_core.specs.declared.trail.Cause.TheVariants.{Decision, Clause}
+use Rattle.sat_core.specs.declared.trail.Cause.TheVariants.{Decision}
 use Rattle.sat_core.specs.declared.trail.Step.{Step}
 use Rattle.sat_core.specs.declared.watching.Pair.{Pair}
 use Rattle.sat_core.specs.Choice.{IsSatisfied}
 use Rattle.sat_core.specs.Quiet.{IsQuiet, IsClosed}
 use Rattle.sat_core.specs.Steps.{literals_of_steps, step_at, EachStep, Fits}
-use Rattle.sat_core.specs.Watches.{pair_at, IsPair, IsAwake, Rests, EachRests, Waits, IsWatchOf, AreListed, RestsAt, RestsBefore, AreWatched, IsFront, IsPassing, IsPending, false_at, pushed, watched, moved}
+use Rattle.sat_core.specs.Watches.{pair_at, IsPair, Rests, EachRests, Waits, IsWatchOf, AreListed, RestsAt, RestsBefore, AreWatched, IsFront, IsPassing, false_at}
 use Rattle.sat_core.proofs.LearnLemmas.{contains_cases}
 use Rattle.sat_core.proofs.Negations.{negation-negation}
 use Rattle.sat_core.proofs.PlaceLemmas.{steps_consistent}
 use Rattle.sat_core.proofs.QuietLemmas.{quiet_by_true, quiet_by_two}
 use Rattle.sat_core.proofs.StepLemmas.{holds_at, place_before, EachStep-push, EachStep-take}
 use Rattle.sat_core.proofs.TrailLemmas.{step_at_left}
-use Rattle.sat_core.proofs.WaitLemmas.{waits_set, waits_next, waits_none, waits_from, waits_pushed, waits_here, length_pushed, list_same, list_other, each_with, each_set, each_pushed, waits_moved, waits_kept, waits_arrived, each_moved, length_moved, moved_list, removed_length}
+use Rattle.sat_core.proofs.WaitLemmas.{waits_set, waits_next, waits_none, list_same, list_other, each_with, each_set}
 
 -- what is true among the first steps is true
 pub holds_still : (steps : List Step) (front x : ℕ) → front ≤ length steps → Contains (literals_of_steps (take front steps)) x → Contains (literals_of_steps steps) x

@@ -1,5 +1,5 @@
 -- What the watched literals of clauses say.
-use Rattle.std.specs.Prelude.{◌≡◌, ◌≢◌, ◌⊎◌, ◌<◌, ◌≤◌, ◌+◌, ◌*◌, ℕ, List, ◌++◌, ◌∷◌, [], length, take, slice_index_or, slice_set, Contains}
+use Rattle.std.specs.Prelude.{◌≡◌, ◌≢◌, ◌⊎◌, ◌<◌, ◌≤◌, ◌+◌, ◌*◌, ℕ, List, ◌++◌, ◌∷◌, [], length, take, slice_index_or, Contains}
 use Rattle.region_pool.specs.Blocks.{block_at}
 use Rattle.region_pool.specs.Literals.{negation}
 use Rattle.region_pool.specs.Refutation.{IsFalse}

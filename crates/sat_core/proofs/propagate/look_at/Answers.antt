@@ -1,4 +1,4 @@
-use Rattle.std.proofs.Common.{◌≡◌, ℕ, ◌+◌, List, Contains, length, set, sym, ap, ◌∙◌, subst}
+use Rattle.std.proofs.Common.{ℕ, List, Contains, length, set, sym, ap, ◌∙◌, subst}
 use Rattle.region_pool.specs.Clauses.{IsLiteral}
 use Rattle.watch_lists.specs.declared.lists.Watch.{Watch}
 use Rattle.watch_lists.specs.Lists.{list_at}

@@ -1,12 +1,10 @@
-use Rattle.std.proofs.Common.{◌≡◌, ◌⊎◌, ℕ, true, false, ◌+◌, List, All, Contains, length, set, sym, ap, ◌∙◌, subst, ◌++◌, ◌∷◌, []}
-use Rattle.region_pool.specs.Blocks.{block_at}
+use Rattle.std.proofs.Common.{◌≡◌, ◌⊎◌, ℕ, true, false, List, All, Contains, length, set, sym, ◌∙◌, subst}
 use Rattle.region_pool.specs.Clauses.{IsLiteral}
 use Rattle.region_pool.specs.Refutation.{IsFalse}
 use Rattle.watch_lists.specs.declared.lists.Watch.{Watch}
 use Rattle.watch_lists.specs.Lists.{list_at}
 use Rattle.sat_core.specs.declared.propagate.Visit.TheVariants.{Stays, Moves}
 use Rattle.sat_core.specs.declared.watching.Pair.{Pair}
-use Rattle.sat_core.specs.Known.{known_clauses}
 use Rattle.sat_core.specs.Passing.{VisitIs}
 use Rattle.sat_core.specs.Progress.{progress}
 use Rattle.sat_core.specs.Steps.{literals_of_steps}

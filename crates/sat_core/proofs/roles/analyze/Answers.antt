@@ -1,5 +1,4 @@
 use Rattle.sat_core.specs.Known.{known_clauses}
-use Rattle.sat_core.specs.Roles.{Keeps}
 use Rattle.sat_core.proofs.ResolveLemmas.{Keeps-then}
 use Rattle.sat_core.proofs.roles.analyze.Goals as goal
 

@@ -1,4 +1,4 @@
-use Rattle.std.proofs.Common.{◌≡◌, ◌<◌, ◌≤◌, length, All}
+use Rattle.std.proofs.Common.{◌≡◌, ◌<◌, length, All}
 use Rattle.sat_core.proofs.order.Order.new.Given as goal
 
 abbrev pub invariant-loop-variable : goal.invariant-loop-variable
