@@ -1,6 +1,6 @@
 -- Sums, products and operations bit by bit as words.
-use Rattle.std.proofs.Common.{◌≡◌, ℕ, ◌+◌, ◌-◌, ◌*◌, ◌/◌, ◌%◌, ◌^◌, ◌<◌, ◌≤◌, Bool, true, false, List, length, sym, ap, ◌∙◌, refl, arith, subst, zero, suc}
-use Rattle.std.specs.Prelude.{map, pos, negsuc, neg_ℤ, ◌-ℤ◌}
+use Rattle.std.proofs.Common.{◌≡◌, ℕ, ◌+◌, ◌-◌, ◌*◌, ◌%◌, ◌^◌, ◌<◌, Bool, false, List, length, sym, ap, ◌∙◌, refl, arith, subst, zero, suc}
+use Rattle.std.specs.Prelude.{map, pos, neg_ℤ}
 use Rattle.std.proofs.Math.Nat.{mod-eq_of_lt}
 use Rattle.std.proofs.lemmas.List.{length-map}
 use Rattle.region_pool.specs.Literals.{negation}

@@ -1,25 +1,25 @@
 -- Terms as literals, each by the terms before it.
-use Rattle.std.proofs.Common.{◌≡◌, ℕ, ◌+◌, ◌*◌, ◌/◌, ◌%◌, ◌^◌, ◌<◌, ◌≤◌, Bool, true, false, cond, eqb, List, [], ◌∷◌, ◌++◌, length, take, drop, get_or, slice_get, Some, sym, ap, ◌∙◌, refl, arith, subst, inl, inr, zero, suc, length-append}
+use Rattle.std.proofs.Common.{◌≡◌, ℕ, ◌+◌, ◌%◌, ◌<◌, Bool, true, false, cond, eqb, List, [], ◌∷◌, ◌++◌, length, get_or, slice_get, Some, sym, ap, ◌∙◌, refl, arith, subst, inl, inr, length-append}
 use Rattle.std.specs.Prelude.{ℤ, pos, negsuc, neg_ℤ, ◌-ℤ◌, int_div, int_rem, IsTrue}
 use Rattle.std.proofs.lemmas.Bool.{cases_lt}
 use Rattle.std.proofs.lemmas.List.{get_or_append_left, get_or_push}
 use Rattle.region_pool.specs.Blocks.{block_at}
 use Rattle.word_bits.specs.declared.word.Word.{Word}
-use Rattle.word_bits.specs.Words.{IsWidth, IsWord, word, word_of, recast, quotient, remainder, is_lawful, value_of, halved}
+use Rattle.word_bits.specs.Words.{IsWidth, word, word_of, recast, quotient, remainder, is_lawful, value_of, halved}
 use Rattle.sym_terms.specs.declared.TermId.{TermId}
 use Rattle.sym_terms.specs.declared.term.Term.{Term}
 use Rattle.sym_terms.specs.declared.term.Term.TheVariants.{Constant, Input, Apply, Cast, Choose, Slice}
 use Rattle.sym_terms.specs.declared.term.TermOp.{TermOp}
 use Rattle.sym_terms.specs.declared.term.TermOp.TheVariants.{Equal, Add, Sub, Mul, And, Or, Xor, Not, Neg, Shl, DivUnsigned, DivSigned, RemUnsigned, RemSigned, ShrUnsigned, ShrSigned, LessUnsigned, LessSigned, AddOverflowsUnsigned, AddOverflowsSigned, SubOverflowsUnsigned, SubOverflowsSigned, MulOverflowsUnsigned, MulOverflowsSigned, LawfulUnsigned, LawfulSigned}
 use Rattle.sym_terms.specs.Ops.{is_binary, is_shift}
-use Rattle.sym_terms.specs.Terms.{applied, op_width, is_shift_width, truth, sliced, term_value, term_width, width_of, AreOperands, IsFitting, AreFitting}
+use Rattle.sym_terms.specs.Terms.{applied, op_width, sliced, term_value, term_width, width_of, AreOperands, IsFitting, AreFitting}
 use Rattle.sym_terms.specs.Terms.{value as term_at}
 use Rattle.sym_terms.proofs.Fitting.{applied_unary}
 use Rattle.sym_terms.proofs.Grown.{IsInserted-known}
 use Rattle.sym_terms.proofs.ValueWords.{IsWidth-width_of}
-use Rattle.bit_gates.specs.Circuit.{Circuit, size, value}
+use Rattle.bit_gates.specs.Circuit.{Circuit, value}
 use Rattle.bit_gates.specs.Made.{Extends, IsWordMade, IsInputWord, AreIn, number}
-use Rattle.bit_gates.proofs.MadeLaws.{extends_both, extends_itself}
+use Rattle.bit_gates.proofs.MadeLaws.{extends_itself}
 use Rattle.bit_gates.proofs.NumberLaws.{are_in_kept, in_same}
 use Rattle.bit_blast.specs.Inputs.{AreAtPlaces}
 use Rattle.bit_blast.specs.Blasted.{word_at, IsMadeWord, IsBlasted, IsTable}

@@ -1,16 +1,16 @@
 -- Quotients and remainders as words.
-use Rattle.std.proofs.Common.{◌≡◌, ℕ, ◌+◌, ◌-◌, ◌*◌, ◌/◌, ◌%◌, ◌^◌, ◌<◌, ◌≤◌, Bool, true, false, not, ◌&&◌, cond, eqb, List, length, get_or, sym, ap, ◌∙◌, refl, arith, subst, inl, inr, zero, suc}
+use Rattle.std.proofs.Common.{◌≡◌, ℕ, ◌+◌, ◌-◌, ◌*◌, ◌/◌, ◌%◌, ◌^◌, ◌<◌, ◌≤◌, Bool, true, false, not, ◌&&◌, cond, eqb, List, length, get_or, sym, ap, ◌∙◌, refl, arith, subst, inl, inr}
 use Rattle.std.specs.Prelude.{unsigned_abs, pos, negsuc, ℤ, int_div, int_rem, nat_lt}
 use Rattle.std.proofs.Math.Nat.{mod-eq_of_lt, zero-mod}
 use Rattle.std.proofs.lemmas.Bool.{and_parts, eq-eqb, cases_eq}
-use Rattle.std.proofs.lemmas.Nat.{div-mul-add, mod-mul-add, shr_le}
+use Rattle.std.proofs.lemmas.Nat.{div-mul-add, mod-mul-add}
 use Rattle.word_bits.specs.declared.word.Word.{Word}
 use Rattle.word_bits.specs.Words.{signed_value, word_of, word, is_lawful, quotient, remainder}
 use Rattle.word_bits.specs.Signs.{is_below_zero, with_sign}
 use Rattle.sym_terms.specs.Terms.{divided, left_over}
 use Rattle.bit_gates.specs.Values.{differ}
 use Rattle.bit_gates.specs.Circuit.{Circuit, size, value}
-use Rattle.bit_gates.specs.Made.{Extends, IsMade, IsWordMade, IsDivision, AreIn, number, bit}
+use Rattle.bit_gates.specs.Made.{Extends, IsMade, IsWordMade, IsDivision, AreIn, number}
 use Rattle.bit_gates.proofs.MadeLaws.{extends_both}
 use Rattle.bit_gates.proofs.NumberLaws.{number_below, number_kept, in_at}
 use Rattle.bit_blast.specs.Blasted.{word_at, IsMadeWord, signed_number}

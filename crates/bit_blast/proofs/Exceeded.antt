@@ -13,11 +13,11 @@ use Rattle.word_bits.specs.Signs.{is_below_zero}
 use Rattle.sym_terms.specs.Terms.{truth}
 use Rattle.bit_gates.specs.Values.{differ}
 use Rattle.bit_gates.specs.Circuit.{Circuit, size, value}
-use Rattle.bit_gates.specs.Made.{Extends, IsConstant, IsMade, IsWordMade, IsSum, IsDifference, AreIn, number, bit}
+use Rattle.bit_gates.specs.Made.{IsConstant, IsMade, IsWordMade, IsSum, IsDifference, AreIn, number}
 use Rattle.bit_gates.proofs.MadeLaws.{extends_both, extends_itself}
 use Rattle.bit_gates.proofs.LiteralLaws.{negation_inside}
 use Rattle.bit_gates.proofs.TestLaws.{value_negation}
-use Rattle.bit_gates.proofs.NumberLaws.{number_append, number_below, number_kept, in_at, in_same, in_copies, in_at_later}
+use Rattle.bit_gates.proofs.NumberLaws.{number_append, number_below, number_kept, in_at, in_same, in_copies}
 use Rattle.bit_gates.proofs.WordLaws.{in_push}
 use Rattle.bit_gates.proofs.ShiftLaws.{number_drop}
 use Rattle.bit_blast.specs.Blasted.{word_at, IsMadeWord}

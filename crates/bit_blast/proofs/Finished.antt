@@ -1,9 +1,9 @@
 -- Gates of roots.
-use Rattle.std.proofs.Common.{◌≡◌, ◌≢◌, ℕ, ◌+◌, ◌^◌, ◌<◌, Bool, List, [], ◌∷◌, ◌++◌, length, take, get_or, slice_get, Some, sym, ap, ◌∙◌, refl, arith, subst, zero, suc}
+use Rattle.std.proofs.Common.{◌≡◌, ℕ, ◌^◌, ◌<◌, List, [], ◌∷◌, length, get_or, slice_get, Some, sym, ap, ◌∙◌, refl, arith, subst, zero, suc}
 use Rattle.std.specs.Prelude.{map}
-use Rattle.std.specs.List.{All, AllPairs}
-use Rattle.std.proofs.lemmas.List.{length-map, take_more, map-append}
-use Rattle.std.proofs.lemmas.List.Elements.{All-head, All-tail, All-get_or}
+use Rattle.std.specs.List.{All}
+use Rattle.std.proofs.lemmas.List.{length-map}
+use Rattle.std.proofs.lemmas.List.Elements.{All-head, All-tail}
 use Rattle.region_pool.specs.Blocks.{block_at}
 use Rattle.sym_terms.specs.declared.TermId.{TermId}
 use Rattle.sym_terms.specs.declared.term.Term.{Term}
@@ -13,7 +13,7 @@ use Rattle.bit_gates.specs.declared.gate.Gate.TheVariants.{True}
 use Rattle.bit_gates.specs.declared.gates.InputBit.{InputBit}
 use Rattle.bit_gates.specs.declared.gates.Gates.{Gates}
 use Rattle.bit_gates.specs.Values.{AreInOrder}
-use Rattle.bit_gates.specs.Circuit.{Circuit, constant_circuit, size, value}
+use Rattle.bit_gates.specs.Circuit.{Circuit, constant_circuit, size}
 use Rattle.bit_blast.specs.Inputs.{HaveWidths, HavePlaces, ArePlaced, input_bits, AreAtPlaces}
 use Rattle.bit_blast.specs.Blasted.{IsTable, IsBlasted, IsRoot, AreGatesOf, lists_of}
 use Rattle.bit_blast.proofs.Placing.{placed_apart, inputs_at_places, inputs_placed}

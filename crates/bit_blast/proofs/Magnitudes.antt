@@ -1,12 +1,12 @@
 -- Magnitudes, signs and lawful divisors.
-use Rattle.std.proofs.Common.{◌≡◌, ℕ, ◌+◌, ◌-◌, ◌*◌, ◌/◌, ◌%◌, ◌^◌, ◌<◌, ◌≤◌, Bool, true, false, not, ◌&&◌, cond, eqb, List, [], ◌∷◌, ◌++◌, length, get_or, replicate, sym, ap, ◌∙◌, refl, arith, subst, length-append}
-use Rattle.std.specs.Prelude.{unsigned_abs, pos, negsuc, neg_ℤ}
+use Rattle.std.proofs.Common.{◌≡◌, ℕ, ◌+◌, ◌-◌, ◌*◌, ◌%◌, ◌^◌, ◌<◌, ◌≤◌, Bool, true, false, not, ◌&&◌, cond, eqb, List, [], ◌∷◌, ◌++◌, length, get_or, replicate, sym, ap, ◌∙◌, refl, arith, subst}
+use Rattle.std.specs.Prelude.{unsigned_abs}
 use Rattle.std.proofs.Math.Nat.{mod-eq_of_lt}
 use Rattle.std.proofs.lemmas.List.{length-replicate}
 use Rattle.region_pool.specs.Literals.{negation}
 use Rattle.word_bits.specs.declared.word.Word.{Word}
-use Rattle.word_bits.specs.Words.{signed_value, word_of, is_lawful}
-use Rattle.word_bits.specs.Signs.{is_below_zero, with_sign}
+use Rattle.word_bits.specs.Words.{signed_value, is_lawful}
+use Rattle.word_bits.specs.Signs.{is_below_zero}
 use Rattle.word_bits.proofs.SignedValues.{value_of-below, value_of-above}
 use Rattle.word_bits.proofs.Overflows.{upper_half}
 use Rattle.bit_gates.specs.Circuit.{Circuit, size, value}

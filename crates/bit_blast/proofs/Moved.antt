@@ -1,6 +1,5 @@
 -- Shifts, casts and slices as words.
-use Rattle.std.proofs.Common.{◌≡◌, ℕ, ◌+◌, ◌-◌, ◌*◌, ◌/◌, ◌%◌, ◌^◌, ◌<◌, ◌≤◌, Bool, true, false, not, cond, eqb, ltb, List, [], ◌∷◌, ◌++◌, length, take, drop, replicate, get_or, min, sym, ap, ◌∙◌, refl, arith, subst, inl, inr, length-append}
-use Rattle.std.specs.Prelude.{pos, negsuc}
+use Rattle.std.proofs.Common.{◌≡◌, ℕ, ◌+◌, ◌-◌, ◌*◌, ◌/◌, ◌%◌, ◌^◌, ◌<◌, ◌≤◌, Bool, true, false, cond, eqb, List, [], ◌∷◌, ◌++◌, length, take, drop, replicate, get_or, min, sym, ap, ◌∙◌, refl, arith, subst, inl, inr, length-append}
 use Rattle.std.proofs.Math.Nat.{mod-eq_of_lt, pow-le-pow_right}
 use Rattle.std.proofs.lemmas.Bool.{cases_lt}
 use Rattle.std.proofs.lemmas.Nat.{pow-add, pow_pos, shr_le, mod_below}
@@ -16,8 +15,8 @@ use Rattle.bit_gates.specs.Circuit.{Circuit, size, value}
 use Rattle.bit_gates.specs.Shifts.{shifted_up, shifted_down}
 use Rattle.bit_gates.specs.Made.{IsConstant, IsWordMade, AreIn, number, bit}
 use Rattle.bit_gates.proofs.MadeLaws.{extends_itself}
-use Rattle.bit_gates.proofs.NumberLaws.{number_append, number_below, number_replicate, number_zero, number_nil, number_cons, in_same, in_take, in_copies, in_at, list_parts, list_none}
-use Rattle.bit_gates.proofs.ShiftLaws.{number_take, number_drop, number_split}
+use Rattle.bit_gates.proofs.NumberLaws.{number_append, number_below, number_replicate, number_zero, number_nil, number_cons, in_take, in_copies, in_at, list_parts, list_none}
+use Rattle.bit_gates.proofs.ShiftLaws.{number_take, number_drop}
 use Rattle.bit_blast.specs.Blasted.{word_at, IsMadeWord}
 use Rattle.bit_blast.proofs.Arithmetical.{same_word, word_made}
 use Rattle.bit_blast.proofs.Signed.{sign_bit}

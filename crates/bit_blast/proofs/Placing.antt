@@ -1,15 +1,14 @@
 -- Where the bits of inputs stand.
-use Rattle.std.proofs.Common.{◌≡◌, ◌≢◌, ℕ, ◌+◌, ◌-◌, ◌*◌, ◌/◌, ◌%◌, ◌^◌, ◌<◌, ◌≤◌, Bool, true, false, cond, eqb, List, [], ◌∷◌, ◌++◌, length, take, get_or, set, slice_get, Some, None, Option, sym, ap, ◌∙◌, refl, arith, subst, zero, suc, inl, inr, add-one, length-append, append_assoc, ◌⊎◌}
+use Rattle.std.proofs.Common.{◌≡◌, ◌≢◌, ℕ, ◌+◌, ◌/◌, ◌%◌, ◌^◌, ◌<◌, ◌≤◌, eqb, List, [], ◌∷◌, ◌++◌, length, get_or, slice_get, Some, sym, ap, ◌∙◌, refl, arith, subst, zero, suc, inl, inr, length-append, append_assoc, ◌⊎◌}
 use Rattle.std.specs.List.{AllPairs}
-use Rattle.std.proofs.lemmas.Bool.{cases_eq, cases_lt, eq-eqb, ne_eqb, cond-true, cond-false}
-use Rattle.std.proofs.lemmas.List.{get_or-set_same, get_or-set_other, get_or_append_left, get_or-append-add, get_or_past, get_or_push, append-nil}
+use Rattle.std.proofs.lemmas.Bool.{cases_lt}
+use Rattle.std.proofs.lemmas.List.{get_or_append_left, get_or-append-add, get_or_past, get_or_push, append-nil}
 use Rattle.std.proofs.lemmas.List.Quantifiers.{all_pairs_push}
 use Rattle.sym_terms.specs.declared.term.Term.{Term}
-use Rattle.sym_terms.specs.declared.term.Term.TheVariants.{Constant, Input, Apply, Cast, Choose, Slice}
+use Rattle.sym_terms.specs.declared.term.Term.TheVariants.{Input}
 use Rattle.sym_terms.specs.Terms.{AreFitting}
 use Rattle.bit_gates.specs.declared.gates.InputBit.{InputBit}
-use Rattle.bit_gates.specs.Made.{AreBitsOf}
-use Rattle.bit_blast.specs.Inputs.{input_of, HaveWidths, bits_of, all_bits, ArePlaced, no_bit, input_bits, HavePlaces, AreAtPlaces}
+use Rattle.bit_blast.specs.Inputs.{HaveWidths, bits_of, all_bits, ArePlaced, no_bit, input_bits, HavePlaces, AreAtPlaces}
 
 pub length_bits : (number width : ℕ) → length (bits_of number width) ≡ width
 length_bits number zero = refl

@@ -1,19 +1,18 @@
 -- The sign of a word is its highest bit.
-use Rattle.std.proofs.Common.{◌≡◌, ℕ, ◌+◌, ◌-◌, ◌*◌, ◌/◌, ◌%◌, ◌^◌, ◌<◌, ◌≤◌, Bool, true, false, not, ◌&&◌, cond, ltb, List, [], ◌∷◌, ◌++◌, length, take, get_or, sym, ap, ◌∙◌, refl, arith, subst, inl, inr, zero, suc}
+use Rattle.std.proofs.Common.{◌≡◌, ℕ, ◌+◌, ◌-◌, ◌*◌, ◌^◌, ◌<◌, ◌≤◌, Bool, true, false, not, ◌&&◌, cond, ltb, List, length, take, get_or, sym, ap, ◌∙◌, refl, arith, subst, inl, inr, zero, suc}
 use mathlib.Core.Bool.{beq}
-use Rattle.std.specs.Prelude.{pos, negsuc, ℤ, int_lt, ◌+ℤ◌, ◌-ℤ◌, neg_ℤ, nat_lt}
+use Rattle.std.specs.Prelude.{pos, negsuc, ℤ, int_lt, ◌+ℤ◌, ◌-ℤ◌, nat_lt}
 use Rattle.std.proofs.lemmas.Bool.{lt-ltb, le-ltb, cond-true, cond-false, cases_lt}
 use Rattle.std.proofs.lemmas.Grind.{pow_more}
 use Rattle.std.proofs.lemmas.List.{take_all}
 use Rattle.word_bits.specs.declared.word.Word.{Word}
-use Rattle.word_bits.specs.Words.{signed_value, value_of, AreWords, is_sum_over, is_difference_over, fits, added, subtracted}
+use Rattle.word_bits.specs.Words.{signed_value, AreWords, is_sum_over, is_difference_over, fits, added, subtracted}
 use Rattle.word_bits.specs.Signs.{is_below_zero}
 use Rattle.word_bits.proofs.SignedValues.{value_of-below, value_of-above}
 use Rattle.word_bits.proofs.Overflows.{sum_over, difference_over, upper_half, lower_half, half_power}
 use Rattle.bit_gates.specs.Values.{differ}
 use Rattle.bit_gates.specs.Made.{number, bit}
 use Rattle.bit_gates.proofs.BitOpLaws.{less_step}
-use Rattle.bit_gates.proofs.NumberLaws.{number_below}
 use Rattle.bit_gates.proofs.WordLaws.{number_take_next, number_take_below}
 use Rattle.bit_blast.specs.Blasted.{word_at}
 

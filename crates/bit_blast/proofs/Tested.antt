@@ -1,12 +1,12 @@
 -- Tests of words as words of one bit.
-use Rattle.std.proofs.Common.{◌≡◌, ℕ, ◌+◌, ◌-◌, ◌*◌, ◌/◌, ◌%◌, ◌^◌, ◌<◌, ◌≤◌, Bool, true, false, not, ◌&&◌, cond, ltb, List, [], ◌∷◌, ◌++◌, length, take, get_or, sym, ap, ◌∙◌, refl, arith, subst, inl, inr, zero, suc}
-use Rattle.std.specs.Prelude.{pos, negsuc, ◌+ℤ◌, ◌-ℤ◌, nat_lt}
+use Rattle.std.proofs.Common.{◌≡◌, ℕ, ◌+◌, ◌-◌, ◌*◌, ◌^◌, ◌<◌, ◌≤◌, Bool, true, false, not, ltb, List, [], ◌∷◌, ◌++◌, length, take, get_or, sym, ap, ◌∙◌, refl, arith, subst, inl, inr, zero, suc}
+use Rattle.std.specs.Prelude.{pos, ◌-ℤ◌}
 use Rattle.std.proofs.lemmas.Bool.{lt-ltb, le-ltb, cases_lt}
 use Rattle.std.proofs.lemmas.List.{length-take-le}
-use Rattle.word_bits.specs.Words.{fits, is_less, is_sum_over, is_difference_over, signed_value}
+use Rattle.word_bits.specs.Words.{fits, is_less, is_sum_over, is_difference_over}
 use Rattle.sym_terms.specs.Terms.{truth}
 use Rattle.bit_gates.specs.Circuit.{Circuit, size, value}
-use Rattle.bit_gates.specs.Made.{Extends, IsConstant, IsMade, IsSum, AreIn, number, bit}
+use Rattle.bit_gates.specs.Made.{IsConstant, IsMade, IsSum, number, bit}
 use Rattle.bit_gates.proofs.NumberLaws.{number_nil, number_cons, number_push, number_below}
 use Rattle.bit_gates.proofs.WordLaws.{in_nil}
 use Rattle.std.proofs.lemmas.List.Elements.{All-cons}

@@ -1,4 +1,4 @@
-use Rattle.std.proofs.Common.{◌∙◌, refl, arith, ap, take, drop}
+use Rattle.std.proofs.Common.{refl}
 use Rattle.bit_blast.proofs.Tested.{truth_made}
 use Rattle.bit_blast.proofs.division.lawful_signed_word.Goals as goal
 

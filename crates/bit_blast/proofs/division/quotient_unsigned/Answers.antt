@@ -1,4 +1,3 @@
-use Rattle.std.proofs.Common.{◌∙◌, refl, arith, ap, take, drop}
 use Rattle.bit_blast.proofs.Divided.{quotient_unsigned_made}
 use Rattle.bit_blast.proofs.division.quotient_unsigned.Goals as goal
 

@@ -1,4 +1,3 @@
-use Rattle.std.proofs.Common.{◌∙◌, refl, arith, ap, take, drop}
 use Rattle.bit_blast.proofs.Divided.{magnitudes_divided, remainder_signed_made}
 use Rattle.bit_blast.proofs.division.remainder_signed.Goals as goal
 

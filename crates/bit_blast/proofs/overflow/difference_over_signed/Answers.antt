@@ -1,6 +1,5 @@
-use Rattle.std.proofs.Common.{◌≡◌, ◌∙◌, ◌<◌, ◌-◌, ◌++◌, List, length, refl, arith, ap, take, drop, replicate, get_or, sym, subst, ℕ}
-use Rattle.std.proofs.lemmas.List.{take_rest, get_or_read}
-use Rattle.bit_gates.proofs.LiteralLaws.{negation_inside}
+use Rattle.std.proofs.Common.{◌≡◌, ◌<◌, ◌-◌, length, arith, get_or, subst, ℕ}
+use Rattle.std.proofs.lemmas.List.{get_or_read}
 use Rattle.bit_gates.specs.Values.{differ}
 use Rattle.bit_gates.specs.Made.{IsMade}
 use Rattle.bit_blast.proofs.Exceeded.{difference_signed_made}

@@ -1,8 +1,5 @@
-use Rattle.std.proofs.Common.{◌≡◌, ◌∙◌, ◌<◌, ◌-◌, ◌++◌, List, length, refl, arith, ap, take, drop, replicate, get_or, sym, subst, ℕ}
-use Rattle.std.proofs.lemmas.List.{take_rest, get_or_read}
-use Rattle.bit_gates.proofs.LiteralLaws.{negation_inside}
-use Rattle.bit_gates.specs.Values.{differ}
-use Rattle.bit_gates.specs.Made.{IsMade}
+use Rattle.std.proofs.Common.{◌∙◌, length, ap, drop}
+use Rattle.std.proofs.lemmas.List.{take_rest}
 use Rattle.bit_blast.proofs.Exceeded.{product_unsigned_made}
 use Rattle.bit_blast.proofs.overflow.product_over_unsigned.Goals as goal
 

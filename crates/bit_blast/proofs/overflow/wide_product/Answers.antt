@@ -1,8 +1,4 @@
-use Rattle.std.proofs.Common.{◌≡◌, ◌∙◌, ◌<◌, ◌-◌, ◌++◌, List, length, refl, arith, ap, take, drop, replicate, get_or, sym, subst, ℕ}
-use Rattle.std.proofs.lemmas.List.{take_rest, get_or_read}
-use Rattle.bit_gates.proofs.LiteralLaws.{negation_inside}
-use Rattle.bit_gates.specs.Values.{differ}
-use Rattle.bit_gates.specs.Made.{IsMade}
+use Rattle.std.proofs.Common.{◌∙◌, refl}
 use Rattle.bit_blast.proofs.Exceeded.{wide_made}
 use Rattle.bit_blast.proofs.overflow.wide_product.Goals as goal
 

@@ -1,4 +1,4 @@
-use Rattle.std.proofs.Common.{◌∙◌, refl, arith, ap, take, drop}
+use Rattle.std.proofs.Common.{◌∙◌, refl}
 use Rattle.bit_gates.proofs.LiteralLaws.{negation_inside}
 use Rattle.bit_blast.proofs.Magnitudes.{lawful_signed_made}
 use Rattle.bit_blast.proofs.signs.lawful_signed.Goals as goal

@@ -1,4 +1,4 @@
-use Rattle.std.proofs.Common.{◌∙◌, refl, arith, ap, take, drop}
+use Rattle.std.proofs.Common.{◌∙◌}
 use Rattle.bit_blast.proofs.Magnitudes.{lawful_unsigned_made}
 use Rattle.bit_blast.proofs.signs.lawful_unsigned.Goals as goal
 

@@ -1,4 +1,3 @@
-use Rattle.std.proofs.Common.{◌∙◌, refl, arith, ap, take, drop}
 use Rattle.bit_blast.proofs.Magnitudes.{magnitude_made}
 use Rattle.bit_blast.proofs.signs.magnitude.Goals as goal
 

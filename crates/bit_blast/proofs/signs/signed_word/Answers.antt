@@ -1,4 +1,3 @@
-use Rattle.std.proofs.Common.{◌∙◌, refl, arith, ap, take, drop}
 use Rattle.bit_blast.proofs.Magnitudes.{signed_word_made}
 use Rattle.bit_blast.proofs.signs.signed_word.Goals as goal
 

@@ -1,4 +1,4 @@
-use Rattle.std.proofs.Common.{◌≡◌, ℕ, List, length, vec_len, ap, ◌∙◌, subst, arith}
+use Rattle.std.proofs.Common.{◌≡◌, ℕ, List, length, ap, ◌∙◌, subst, arith}
 use Rattle.bit_gates.specs.Circuit.{Circuit}
 use Rattle.bit_blast.specs.Inputs.{ArePlaced}
 use Rattle.bit_blast.specs.Blasted.{IsTable}

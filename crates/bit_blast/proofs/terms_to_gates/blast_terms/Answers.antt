@@ -1,4 +1,4 @@
-use Rattle.std.proofs.Common.{◌≡◌, ◌++◌, ◌∷◌, [], List, ℕ, ap, ◌∙◌}
+use Rattle.std.proofs.Common.{◌++◌, ◌∷◌, [], List, ℕ, ap, ◌∙◌}
 use Rattle.bit_blast.proofs.Blasting.{table_more}
 use Rattle.bit_blast.proofs.terms_to_gates.blast_terms.Goals as goal
 

@@ -1,4 +1,4 @@
-use Rattle.std.proofs.Common.{◌≡◌, ◌∙◌, Bool, refl, arith}
+use Rattle.std.proofs.Common.{refl}
 use Rattle.bit_blast.proofs.Tested.{truth_made}
 use Rattle.bit_blast.proofs.tests_of_words.less_unsigned.Goals as goal
 
