@@ -3,8 +3,8 @@ use Rattle.std.proofs.Common.{◌≡◌, ◌⊎◌, inl, inr, ℕ, ◌+◌, ◌-
 use Rattle.std.specs.Prelude.{codes, string_bytes, String}
 use Rattle.std.specs.declared.alloc.Global.{Global}
 use Rattle.vk_files.specs.Causes.{Rose}
-use Rattle.mir_ir.specs.declared.tree.Function.{Function}
-use Rattle.mir_text.specs.Means.{Means}
+use Rattle.form_ir.specs.declared.tree.Function.{Function}
+use Rattle.form_text.specs.Means.{Means}
 use Rattle.verdicts.specs.Statuses.{NeverFaults, all_succeed}
 use Rattle.verdicts.specs.declared.status.UnitReport.{UnitReport}
 use Rattle.verdicts.proofs.Listed.{and_left, never_faults}

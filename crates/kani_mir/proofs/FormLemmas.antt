@@ -5,18 +5,18 @@ use Rattle.std.specs.List.{list_all}
 use Rattle.std.proofs.lemmas.Bool.{ltb-true}
 use Rattle.std.proofs.lemmas.List.Sums.{sum_by-cons}
 use Rattle.vk_core.specs.declared.ids.BlockId.{BlockId}
-use Rattle.mir_ir.specs.declared.tree.Arm.{Arm}
-use Rattle.mir_ir.specs.declared.tree.Block.{Block}
-use Rattle.mir_ir.specs.declared.tree.Constant.TheVariants as constant
-use Rattle.mir_ir.specs.declared.tree.Function.{Function}
-use Rattle.mir_ir.specs.declared.tree.Operand.{Operand}
-use Rattle.mir_ir.specs.declared.tree.Operand.TheVariants as operand
-use Rattle.mir_ir.specs.declared.tree.Terminator.{Terminator}
-use Rattle.mir_ir.specs.declared.tree.Terminator.TheVariants as terminator
-use Rattle.mir_ir.specs.declared.kinds.ValueKind.TheVariants as kind
-use Rattle.mir_ir.specs.Builtins.{builtin_of}
-use Rattle.mir_ir.specs.Look.{block_of, local_kind}
-use Rattle.mir_text.specs.Rules.{IsOfForm, arm_fits, block_fits, call_fits, count_of_steps, is_of_kind, jump_fits, next_fits, operand_kind, size_of, statement_fits, terminator_fits}
+use Rattle.form_ir.specs.declared.tree.Arm.{Arm}
+use Rattle.form_ir.specs.declared.tree.Block.{Block}
+use Rattle.form_ir.specs.declared.tree.Constant.TheVariants as constant
+use Rattle.form_ir.specs.declared.tree.Function.{Function}
+use Rattle.form_ir.specs.declared.tree.Operand.{Operand}
+use Rattle.form_ir.specs.declared.tree.Operand.TheVariants as operand
+use Rattle.form_ir.specs.declared.tree.Terminator.{Terminator}
+use Rattle.form_ir.specs.declared.tree.Terminator.TheVariants as terminator
+use Rattle.form_ir.specs.declared.kinds.ValueKind.TheVariants as kind
+use Rattle.form_ir.specs.Builtins.{builtin_of}
+use Rattle.form_ir.specs.Look.{block_of, local_kind}
+use Rattle.form_text.specs.Rules.{IsOfForm, arm_fits, block_fits, call_fits, count_of_steps, is_of_kind, jump_fits, next_fits, operand_kind, size_of, statement_fits, terminator_fits}
 use Rattle.kani_mir.specs.Told.{AreWithin}
 use Rattle.verdicts.specs.Runnable.{ArmsGoOn, GoesOn, IsRunnable, NextGoesOn, Runnable, SwitchesOnNumber}
 use Rattle.verdicts.proofs.Listed.{and_left}

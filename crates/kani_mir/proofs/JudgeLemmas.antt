@@ -1,8 +1,8 @@
 -- What is right for the bytes of two files, from what there is to tell of the function that the text means.
 use Rattle.std.proofs.Common.{◌≡◌, ℕ, ◌≤◌, List, [], ◌∷◌, length, ap, subst, sym, ◌∙◌, refl}
-use Rattle.mir_ir.specs.declared.tree.Function.{Function}
-use Rattle.mir_text.specs.Means.{HasOneMeaning, IsMeaningless, Means}
-use Rattle.mir_text.specs.Rules.{IsOfForm, choice_bits}
+use Rattle.form_ir.specs.declared.tree.Function.{Function}
+use Rattle.form_text.specs.Means.{HasOneMeaning, IsMeaningless, Means}
+use Rattle.form_text.specs.Rules.{IsOfForm, choice_bits}
 use Rattle.kani_mir.specs.Command.{IsBuilt, IsJudged, IsReportOf, four_lines}
 use Rattle.kani_mir.specs.Told.{IsTold}
 use Rattle.kani_mir.specs.declared.answer.Answer.{Answer}

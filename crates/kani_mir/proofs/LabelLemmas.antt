@@ -5,16 +5,16 @@ use Rattle.std.specs.List.{list_all}
 use Rattle.std.proofs.lemmas.Bool.{ltb-true}
 use Rattle.std.proofs.lemmas.Option.{none-some, same_Some}
 use Rattle.vk_core.specs.declared.ids.BlockId.{BlockId}
-use Rattle.mir_ir.specs.declared.tree.Block.{Block}
-use Rattle.mir_ir.specs.declared.tree.Function.{Function}
-use Rattle.mir_text.specs.declared.token.Token.{Token}
-use Rattle.mir_text.specs.declared.token.TokenKind.{TokenKind}
-use Rattle.mir_text.specs.declared.token.TokenKind.TheVariants as kind
-use Rattle.mir_text.specs.Grammar.{Each}
-use Rattle.mir_text.specs.Tokens.{is_digit}
-use Rattle.mir_text.specs.Leaves.{is_plain, label_in, label_of, number_below, plain_number, to_label, value_from, word_in}
-use Rattle.mir_text.specs.Means.{Means}
-use Rattle.mir_text.specs.Productions.{Parts, ReadsBlock, ReadsBody, ReadsFunction}
+use Rattle.form_ir.specs.declared.tree.Block.{Block}
+use Rattle.form_ir.specs.declared.tree.Function.{Function}
+use Rattle.form_text.specs.declared.token.Token.{Token}
+use Rattle.form_text.specs.declared.token.TokenKind.{TokenKind}
+use Rattle.form_text.specs.declared.token.TokenKind.TheVariants as kind
+use Rattle.form_text.specs.Grammar.{Each}
+use Rattle.form_text.specs.Tokens.{is_digit}
+use Rattle.form_text.specs.Leaves.{is_plain, label_in, label_of, number_below, plain_number, to_label, value_from, word_in}
+use Rattle.form_text.specs.Means.{Means}
+use Rattle.form_text.specs.Productions.{Parts, ReadsBlock, ReadsBody, ReadsFunction}
 use Rattle.verdicts.proofs.WalkLemmas.{and_right}
 use Rattle.kani_mir.specs.Told.{AreWithin}
 use Rattle.kani_mir.proofs.JudgeLemmas.{same_function}

@@ -2,9 +2,9 @@
 use Rattle.std.specs.Prelude.{◌≡◌, ◌⊎◌, ℕ, ◌<◌, ◌≤◌, Bool, true, ◌&&◌, if◌then◌else◌, List, [], ◌∷◌, ◌++◌, length, take, map, codes, Option, Some, None, IfSome, string_bytes, String}
 use Rattle.std.specs.declared.alloc.Global.{Global}
 use Rattle.vk_files.specs.Causes.{Rose}
-use Rattle.mir_ir.specs.declared.tree.Function.{Function}
-use Rattle.mir_text.specs.Means.{Means}
-use Rattle.mir_text.specs.Rules.{choice_bits}
+use Rattle.form_ir.specs.declared.tree.Function.{Function}
+use Rattle.form_text.specs.Means.{Means}
+use Rattle.form_text.specs.Rules.{choice_bits}
 use Rattle.verdicts.specs.declared.status.UnitReport.{UnitReport}
 use Rattle.verdicts.specs.Report.{line, report_of}
 use Rattle.verdicts.specs.Statuses.{FitStatuses, NeverFaults, all_succeed}

@@ -1,8 +1,8 @@
 -- What there is to tell at each step of the command.
 use Rattle.std.specs.Prelude.{◌≡◌, ℕ, ◌<◌, ◌≤◌, List, [], ◌∷◌, Option, None, Result, Ok, Err}
-use Rattle.mir_ir.specs.declared.tree.Block.{Block}
-use Rattle.mir_ir.specs.declared.tree.Function.{Function}
-use Rattle.mir_text.specs.Rules.{choice_bits}
+use Rattle.form_ir.specs.declared.tree.Block.{Block}
+use Rattle.form_ir.specs.declared.tree.Function.{Function}
+use Rattle.form_text.specs.Rules.{choice_bits}
 use Rattle.vk_core.specs.declared.memory.NoMemory.{NoMemory}
 use Rattle.vk_files.specs.Causes.{Rose}
 use Rattle.vk_files.specs.declared.reading.FileFault.{FileFault}

@@ -1,11 +1,11 @@
 ghost use Rattle.std.specs.Prelude.{◌≡◌, ◌≤◌, ◌↔◌, [], ◌∷◌, length, IfOk, IsTrue};
-ghost use Rattle.mir_text.specs.Rules.{IsOfForm};
+ghost use Rattle.form_text.specs.Rules.{IsOfForm};
 ghost use Rattle.kani_mir.specs.Command.{IsJudged, IsReportOf, four_lines};
 ghost use Rattle.kani_mir.specs.Told.{AreWithin, IsTold};
 
 use crate::answer::Answer;
-use mir_ir::Function;
-use mir_text::{choice_bits, parse_form};
+use form_ir::Function;
+use form_text::{choice_bits, parse_form};
 use sqlite_items::Items;
 use std::alloc::Global;
 use verdicts::{UnitReport, verify_by_trying};

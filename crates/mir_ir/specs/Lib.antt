@@ -1,4 +1,2 @@
-pub mod Builtins
-pub mod Kinds
-pub mod Look
-pub mod Run
+pub mod Integers
+pub mod Names

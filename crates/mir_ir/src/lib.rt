@@ -1,14 +1,22 @@
-//! Functions of the MIR text as plain trees, and what their runs are (`specs/`).
+//! Programs as plain trees: the functions of a text and the declarations beside them.
 #![tactic(auto)]
 
-mod builtins;
-mod kinds;
-mod look;
+mod declarations;
+mod names;
+mod places;
 mod tree;
+mod types;
 
-pub use builtins::Builtin;
-pub use kinds::{Choice, ValueKind};
-pub use tree::{
-    Arm, BinaryOp, Block, Callee, Constant, Function, IntTy, Local, Operand, PlaceExpr, Rvalue,
-    Statement, Terminator, Ty,
+pub use declarations::{
+    AliasDecl, ConstantDecl, Contract, Declarations, FieldDecl, LoopRule, TagDecl, TraitDecl,
+    TypeDecl, TypeShape, Unit, UnitKind, VariantDecl, VtableDecl,
 };
+pub use places::{PlaceExpr, Projection, Steps};
+pub use tree::{
+    Arm, BinaryOp, Block, Callee, CastKind, Constant, Function, Local, NamedOperand, Operand,
+    Rvalue, Statement, Terminator,
+};
+pub use types::{IntTy, Ty};
+
+#[cfg(test)]
+mod tests;

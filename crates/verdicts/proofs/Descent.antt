@@ -5,19 +5,19 @@ use Rattle.std.proofs.lemmas.Bool.{eqb-true}
 use Rattle.std.proofs.lemmas.Option.{same_Some, none-some, slice_get_within}
 use Rattle.vk_core.specs.declared.ids.BlockId.{BlockId}
 use Rattle.vk_core.specs.declared.check.CheckClass.TheVariants as class
-use Rattle.mir_ir.specs.declared.tree.Arm.{Arm}
-use Rattle.mir_ir.specs.declared.tree.Block.{Block}
-use Rattle.mir_ir.specs.declared.tree.Function.{Function}
-use Rattle.mir_ir.specs.declared.tree.Operand.{Operand}
-use Rattle.mir_ir.specs.declared.tree.Statement.{Statement}
-use Rattle.mir_ir.specs.declared.tree.Statement.TheVariants as statement
-use Rattle.mir_ir.specs.declared.tree.Terminator.{Terminator}
-use Rattle.mir_ir.specs.declared.tree.Terminator.TheVariants as terminator
-use Rattle.mir_ir.specs.declared.builtins.Builtin.{Builtin}
-use Rattle.mir_ir.specs.declared.builtins.Builtin.TheVariants as builtin
-use Rattle.mir_ir.specs.Builtins.{builtin_of}
-use Rattle.mir_ir.specs.Look.{block_of}
-use Rattle.mir_ir.specs.Run.{Configuration, Stepped, Goes, Ends, Faults, Chooses, Stuck, step, block_step, step_at, terminator_step, statement_step, assigned, switched, asserted, assert_step, builtin_step, call_step, target_of, entry_of, operand_value, rvalue_value}
+use Rattle.form_ir.specs.declared.tree.Arm.{Arm}
+use Rattle.form_ir.specs.declared.tree.Block.{Block}
+use Rattle.form_ir.specs.declared.tree.Function.{Function}
+use Rattle.form_ir.specs.declared.tree.Operand.{Operand}
+use Rattle.form_ir.specs.declared.tree.Statement.{Statement}
+use Rattle.form_ir.specs.declared.tree.Statement.TheVariants as statement
+use Rattle.form_ir.specs.declared.tree.Terminator.{Terminator}
+use Rattle.form_ir.specs.declared.tree.Terminator.TheVariants as terminator
+use Rattle.form_ir.specs.declared.builtins.Builtin.{Builtin}
+use Rattle.form_ir.specs.declared.builtins.Builtin.TheVariants as builtin
+use Rattle.form_ir.specs.Builtins.{builtin_of}
+use Rattle.form_ir.specs.Look.{block_of}
+use Rattle.form_ir.specs.Run.{Configuration, Stepped, Goes, Ends, Faults, Chooses, Stuck, step, block_step, step_at, terminator_step, statement_step, assigned, switched, asserted, assert_step, builtin_step, call_step, target_of, entry_of, operand_value, rvalue_value}
 use Rattle.verdicts.specs.Findings.{height}
 use Rattle.verdicts.specs.Runnable.{Runnable, IsRunnable, GoesOn, ArmsGoOn, NextGoesOn}
 use Rattle.verdicts.proofs.RunnableLemmas.{forward_found}

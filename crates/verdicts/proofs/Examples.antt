@@ -3,24 +3,24 @@ use Rattle.std.proofs.Common.{◌≡◌, ℕ, List, [], ◌∷◌, Some, None, r
 use Rattle.std.specs.Prelude.{codes}
 use Rattle.vk_core.specs.declared.check.CheckClass.TheVariants as class
 use Rattle.vk_core.specs.declared.check.Fault.{Fault}
-use Rattle.mir_ir.specs.declared.kinds.Choice.{Choice}
-use Rattle.mir_ir.specs.declared.kinds.ValueKind.TheVariants as kind
-use Rattle.mir_ir.specs.declared.tree.BinaryOp.{BinaryOp}
-use Rattle.mir_ir.specs.declared.tree.BinaryOp.TheVariants as op
-use Rattle.mir_ir.specs.declared.tree.Block.{Block}
-use Rattle.mir_ir.specs.declared.tree.Constant.TheVariants as constant
-use Rattle.mir_ir.specs.declared.tree.Function.{Function}
-use Rattle.mir_ir.specs.declared.tree.IntTy.TheVariants as int
-use Rattle.mir_ir.specs.declared.tree.Local.{Local}
-use Rattle.mir_ir.specs.declared.tree.Operand.TheVariants as operand
-use Rattle.mir_ir.specs.declared.tree.PlaceExpr.{PlaceExpr}
-use Rattle.mir_ir.specs.declared.tree.Rvalue.TheVariants as rvalue
-use Rattle.mir_ir.specs.declared.tree.Statement.TheVariants as statement
-use Rattle.mir_ir.specs.declared.tree.Terminator.TheVariants as terminator
-use Rattle.mir_ir.specs.declared.tree.Ty as tree_ty
-use Rattle.mir_ir.specs.declared.tree.Ty.{Ty}
-use Rattle.mir_ir.specs.declared.tree.Ty.TheVariants as ty
-use Rattle.mir_ir.specs.Run.{Ended, Faulted, Running, Wanting, run, start, step}
+use Rattle.form_ir.specs.declared.kinds.Choice.{Choice}
+use Rattle.form_ir.specs.declared.kinds.ValueKind.TheVariants as kind
+use Rattle.form_ir.specs.declared.tree.BinaryOp.{BinaryOp}
+use Rattle.form_ir.specs.declared.tree.BinaryOp.TheVariants as op
+use Rattle.form_ir.specs.declared.tree.Block.{Block}
+use Rattle.form_ir.specs.declared.tree.Constant.TheVariants as constant
+use Rattle.form_ir.specs.declared.tree.Function.{Function}
+use Rattle.form_ir.specs.declared.tree.IntTy.TheVariants as int
+use Rattle.form_ir.specs.declared.tree.Local.{Local}
+use Rattle.form_ir.specs.declared.tree.Operand.TheVariants as operand
+use Rattle.form_ir.specs.declared.tree.PlaceExpr.{PlaceExpr}
+use Rattle.form_ir.specs.declared.tree.Rvalue.TheVariants as rvalue
+use Rattle.form_ir.specs.declared.tree.Statement.TheVariants as statement
+use Rattle.form_ir.specs.declared.tree.Terminator.TheVariants as terminator
+use Rattle.form_ir.specs.declared.tree.Ty as tree_ty
+use Rattle.form_ir.specs.declared.tree.Ty.{Ty}
+use Rattle.form_ir.specs.declared.tree.Ty.TheVariants as ty
+use Rattle.form_ir.specs.Run.{Ended, Faulted, Running, Wanting, run, start, step}
 
 abbrev local : ℕ → Ty → Local
 local n t = record { id = record { 0 = n }; ty = t }

@@ -1,7 +1,7 @@
 -- Findings that are kept.
 use Rattle.std.proofs.Common.{List, [], ◌∷◌, ◌++◌, inl, inr, refl}
 use Rattle.vk_core.specs.declared.check.Fault.{Fault}
-use Rattle.mir_ir.specs.declared.tree.Function.{Function}
+use Rattle.form_ir.specs.declared.tree.Function.{Function}
 use Rattle.verdicts.specs.Statuses.{Reaches}
 use Rattle.verdicts.specs.Findings.{HasFinding, EachReaches, Noted}
 use Rattle.verdicts.specs.declared.explore.Finding.{Finding}

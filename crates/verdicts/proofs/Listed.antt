@@ -7,23 +7,23 @@ use Rattle.vk_core.specs.declared.ids.BlockId.{BlockId}
 use Rattle.vk_core.specs.declared.check.CheckClass.TheVariants as class
 use Rattle.vk_core.specs.declared.check.Fault.{Fault}
 use Rattle.vk_core.specs.declared.check.Site.{Site}
-use Rattle.mir_ir.specs.declared.kinds.Choice.{Choice}
-use Rattle.mir_ir.specs.declared.tree.Arm.{Arm}
-use Rattle.mir_ir.specs.declared.tree.Block.{Block}
-use Rattle.mir_ir.specs.declared.tree.Constant.TheVariants as constant
-use Rattle.mir_ir.specs.declared.tree.Function.{Function}
-use Rattle.mir_ir.specs.declared.tree.Operand.{Operand}
-use Rattle.mir_ir.specs.declared.tree.Operand.TheVariants as operand
-use Rattle.mir_ir.specs.declared.tree.Statement.{Statement}
-use Rattle.mir_ir.specs.declared.tree.Statement.TheVariants as statement
-use Rattle.mir_ir.specs.declared.tree.Terminator.{Terminator}
-use Rattle.mir_ir.specs.declared.tree.Terminator.TheVariants as terminator
-use Rattle.mir_ir.specs.declared.builtins.Builtin.{Builtin}
-use Rattle.mir_ir.specs.declared.builtins.Builtin.TheVariants as builtin
-use Rattle.mir_ir.specs.Builtins.{builtin_of}
-use Rattle.mir_ir.specs.Kinds.{is_choice_of}
-use Rattle.mir_ir.specs.Look.{block_of, blocks_end}
-use Rattle.mir_ir.specs.Run.{Configuration, Outcome, Wanting, Faulted, Stepped, Goes, Ends, Faults, Chooses, Stuck, after, assert_step, asserted, assigned, block_step, builtin_step, call_step, chosen, entry_of, operand_value, run, rvalue_value, site_of, start, statement_step, step, step_at, switched, terminator_step}
+use Rattle.form_ir.specs.declared.kinds.Choice.{Choice}
+use Rattle.form_ir.specs.declared.tree.Arm.{Arm}
+use Rattle.form_ir.specs.declared.tree.Block.{Block}
+use Rattle.form_ir.specs.declared.tree.Constant.TheVariants as constant
+use Rattle.form_ir.specs.declared.tree.Function.{Function}
+use Rattle.form_ir.specs.declared.tree.Operand.{Operand}
+use Rattle.form_ir.specs.declared.tree.Operand.TheVariants as operand
+use Rattle.form_ir.specs.declared.tree.Statement.{Statement}
+use Rattle.form_ir.specs.declared.tree.Statement.TheVariants as statement
+use Rattle.form_ir.specs.declared.tree.Terminator.{Terminator}
+use Rattle.form_ir.specs.declared.tree.Terminator.TheVariants as terminator
+use Rattle.form_ir.specs.declared.builtins.Builtin.{Builtin}
+use Rattle.form_ir.specs.declared.builtins.Builtin.TheVariants as builtin
+use Rattle.form_ir.specs.Builtins.{builtin_of}
+use Rattle.form_ir.specs.Kinds.{is_choice_of}
+use Rattle.form_ir.specs.Look.{block_of, blocks_end}
+use Rattle.form_ir.specs.Run.{Configuration, Outcome, Wanting, Faulted, Stepped, Goes, Ends, Faults, Chooses, Stuck, after, assert_step, asserted, assigned, block_step, builtin_step, call_step, chosen, entry_of, operand_value, run, rvalue_value, site_of, start, statement_step, step, step_at, switched, terminator_step}
 use Rattle.verdicts.specs.declared.checks.Check.{Check}
 use Rattle.verdicts.specs.Checks.{assertion_checks, block_checks, call_checks, checks_behind, checks_below, checks_in, checks_of, found_checks, memory_checks, site_in, switch_checks, terminator_checks}
 use Rattle.verdicts.specs.Runnable.{IsRunnable, Runnable, SwitchesOnNumber}

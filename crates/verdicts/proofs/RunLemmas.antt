@@ -2,11 +2,11 @@
 use Rattle.std.proofs.Common.{◌≡◌, ℕ, zero, suc, ◌+◌, ◌-◌, Bool, true, false, cond, List, [], ◌∷◌, ◌++◌, append_assoc, append-nil, subst, sym, ap, ◌∙◌, refl, arith}
 use Rattle.vk_core.specs.declared.check.CheckClass.{CheckClass}
 use Rattle.vk_core.specs.declared.check.Fault.{Fault}
-use Rattle.mir_ir.specs.declared.kinds.Choice.{Choice}
-use Rattle.mir_ir.specs.declared.kinds.ValueKind.{ValueKind}
-use Rattle.mir_ir.specs.declared.tree.Function.{Function}
-use Rattle.mir_ir.specs.Kinds.{is_choice_of}
-use Rattle.mir_ir.specs.Run.{Configuration, Outcome, Running, Faulted, Ended, Wanting, Lost, Stepped, Goes, Ends, Faults, Chooses, Stuck, after, chosen, run, site_of, start, step}
+use Rattle.form_ir.specs.declared.kinds.Choice.{Choice}
+use Rattle.form_ir.specs.declared.kinds.ValueKind.{ValueKind}
+use Rattle.form_ir.specs.declared.tree.Function.{Function}
+use Rattle.form_ir.specs.Kinds.{is_choice_of}
+use Rattle.form_ir.specs.Run.{Configuration, Outcome, Running, Faulted, Ended, Wanting, Lost, Stepped, Goes, Ends, Faults, Chooses, Stuck, after, chosen, run, site_of, start, step}
 use Rattle.verdicts.specs.Statuses.{Reaches}
 use Rattle.verdicts.specs.Findings.{HasFinding, CoversRuns, Leads}
 use Rattle.verdicts.specs.declared.explore.Finding.{Finding}

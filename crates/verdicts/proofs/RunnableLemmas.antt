@@ -2,9 +2,9 @@
 use Rattle.std.proofs.Common.{◌≡◌, ℕ, ◌≤◌, Bool, true, false, cond, List, [], ◌∷◌, Some, find, arith}
 use Rattle.std.proofs.lemmas.Option.{same_Some, none-some}
 use Rattle.std.proofs.Common.{subst, sym, ◌==◌}
-use Rattle.mir_ir.specs.declared.tree.Block.{Block}
-use Rattle.mir_ir.specs.declared.tree.Function.{Function}
-use Rattle.mir_ir.specs.Look.{blocks_end, block_of}
+use Rattle.form_ir.specs.declared.tree.Block.{Block}
+use Rattle.form_ir.specs.declared.tree.Function.{Function}
+use Rattle.form_ir.specs.Look.{blocks_end, block_of}
 use Rattle.verdicts.specs.Runnable.{Runnable, IsRunnable}
 
 pub forward_found : (test : Block → Bool) (bs : List Block) (b : Block) → Runnable bs → find test bs ≡ Some b → IsRunnable b

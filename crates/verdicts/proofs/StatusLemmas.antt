@@ -1,8 +1,8 @@
 -- What may be told of checks, from what a search has found.
 use Rattle.std.proofs.Common.{◌≡◌, ◌≤◌, List, [], ◌∷◌, ◌++◌, ap, subst, sym, ◌∙◌, refl, arith}
 use Rattle.vk_core.specs.declared.check.Fault.{Fault}
-use Rattle.mir_ir.specs.declared.tree.Function.{Function}
-use Rattle.mir_ir.specs.Run.{Configuration, start}
+use Rattle.form_ir.specs.declared.tree.Function.{Function}
+use Rattle.form_ir.specs.Run.{Configuration, start}
 use Rattle.verdicts.specs.Engine.{configuration}
 use Rattle.verdicts.specs.Findings.{CoversRuns, Explored, HasFinding, IsSearched, IsWalk, Leads, height, most_steps}
 use Rattle.verdicts.specs.Statuses.{EachIsTrue, IsTrueOf, Never, checks_told, fault_of}

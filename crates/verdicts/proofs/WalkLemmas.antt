@@ -3,14 +3,14 @@ use Rattle.std.proofs.Common.{◌≡◌, ℕ, ◌+◌, ◌<◌, ◌≤◌, Bool,
 use Rattle.std.proofs.lemmas.Bool.{ltb-true, lt-ltb}
 use Rattle.vk_core.specs.declared.check.CheckClass.{CheckClass}
 use Rattle.vk_core.specs.declared.check.Fault.{Fault}
-use Rattle.mir_ir.specs.declared.kinds.Choice.{Choice}
-use Rattle.mir_ir.specs.declared.kinds.ValueKind.{ValueKind}
-use Rattle.mir_ir.specs.declared.kinds.ValueKind.TheVariants as kind
-use Rattle.mir_ir.specs.declared.tree.IntTy.{IntTy}
-use Rattle.mir_ir.specs.declared.tree.IntTy.TheVariants as int
-use Rattle.mir_ir.specs.declared.tree.Function.{Function}
-use Rattle.mir_ir.specs.Kinds.{count_of_values, is_choice_of, is_value, same_int, same_kind}
-use Rattle.mir_ir.specs.Run.{Configuration, Goes, Ends, Faults, Chooses, Stuck, chosen, step}
+use Rattle.form_ir.specs.declared.kinds.Choice.{Choice}
+use Rattle.form_ir.specs.declared.kinds.ValueKind.{ValueKind}
+use Rattle.form_ir.specs.declared.kinds.ValueKind.TheVariants as kind
+use Rattle.form_ir.specs.declared.tree.IntTy.{IntTy}
+use Rattle.form_ir.specs.declared.tree.IntTy.TheVariants as int
+use Rattle.form_ir.specs.declared.tree.Function.{Function}
+use Rattle.form_ir.specs.Kinds.{count_of_values, is_choice_of, is_value, same_int, same_kind}
+use Rattle.form_ir.specs.Run.{Configuration, Goes, Ends, Faults, Chooses, Stuck, chosen, step}
 use Rattle.verdicts.specs.Engine.{configuration}
 use Rattle.verdicts.specs.Findings.{Adds, CoversRuns, Explored, HasFinding, IsBranch, IsWalk, Leads, Noted, Tried, height, most_steps}
 use Rattle.verdicts.specs.Runnable.{Runnable}

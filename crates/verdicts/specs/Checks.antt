@@ -4,19 +4,19 @@ use Rattle.vk_core.specs.declared.ids.BlockId.{BlockId}
 use Rattle.vk_core.specs.declared.check.Site.{Site}
 use Rattle.vk_core.specs.declared.check.CheckClass.{CheckClass}
 use Rattle.vk_core.specs.declared.check.CheckClass.TheVariants as class
-use Rattle.mir_ir.specs.declared.tree.Constant.TheVariants as constant
-use Rattle.mir_ir.specs.declared.tree.Operand.{Operand}
-use Rattle.mir_ir.specs.declared.tree.Operand.TheVariants as operand
-use Rattle.mir_ir.specs.declared.tree.Statement.{Statement}
-use Rattle.mir_ir.specs.declared.tree.Terminator.{Terminator}
-use Rattle.mir_ir.specs.declared.tree.Terminator.TheVariants as terminator
-use Rattle.mir_ir.specs.declared.tree.Block.{Block}
-use Rattle.mir_ir.specs.declared.tree.Function.{Function}
-use Rattle.mir_ir.specs.declared.builtins.Builtin.{Builtin}
-use Rattle.mir_ir.specs.declared.builtins.Builtin.TheVariants as builtin
-use Rattle.mir_ir.specs.Builtins.{builtin_of}
-use Rattle.mir_ir.specs.Look.{block_of, blocks_end}
-use Rattle.mir_ir.specs.Run.{the_function}
+use Rattle.form_ir.specs.declared.tree.Constant.TheVariants as constant
+use Rattle.form_ir.specs.declared.tree.Operand.{Operand}
+use Rattle.form_ir.specs.declared.tree.Operand.TheVariants as operand
+use Rattle.form_ir.specs.declared.tree.Statement.{Statement}
+use Rattle.form_ir.specs.declared.tree.Terminator.{Terminator}
+use Rattle.form_ir.specs.declared.tree.Terminator.TheVariants as terminator
+use Rattle.form_ir.specs.declared.tree.Block.{Block}
+use Rattle.form_ir.specs.declared.tree.Function.{Function}
+use Rattle.form_ir.specs.declared.builtins.Builtin.{Builtin}
+use Rattle.form_ir.specs.declared.builtins.Builtin.TheVariants as builtin
+use Rattle.form_ir.specs.Builtins.{builtin_of}
+use Rattle.form_ir.specs.Look.{block_of, blocks_end}
+use Rattle.form_ir.specs.Run.{the_function}
 use Rattle.verdicts.specs.declared.checks.Check.{Check}
 
 abbrev pub check_at : Site → CheckClass → List ℕ → Check

@@ -1,6 +1,6 @@
 -- What the engine keeps of a run, and what its steps do.
 use Rattle.std.specs.Prelude.{◌≡◌}
-use Rattle.mir_ir.specs.Run as run
+use Rattle.form_ir.specs.Run as run
 use Rattle.verdicts.specs.declared.step.State.{State}
 use Rattle.verdicts.specs.declared.step.Step.{Step}
 use Rattle.verdicts.specs.declared.step.Step.TheVariants as step

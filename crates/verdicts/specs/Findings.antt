@@ -1,10 +1,10 @@
 -- What a search of runs has found.
 use Rattle.std.specs.Prelude.{◌≡◌, ◌⊎◌, ℕ, ◌+◌, ◌-◌, ◌*◌, ◌<◌, ◌≤◌, List, [], ◌∷◌, ◌++◌}
 use Rattle.vk_core.specs.declared.check.Fault.{Fault}
-use Rattle.mir_ir.specs.declared.kinds.Choice.{Choice}
-use Rattle.mir_ir.specs.declared.kinds.ValueKind.{ValueKind}
-use Rattle.mir_ir.specs.declared.tree.Function.{Function}
-use Rattle.mir_ir.specs.Run as run
+use Rattle.form_ir.specs.declared.kinds.Choice.{Choice}
+use Rattle.form_ir.specs.declared.kinds.ValueKind.{ValueKind}
+use Rattle.form_ir.specs.declared.tree.Function.{Function}
+use Rattle.form_ir.specs.Run as run
 use Rattle.verdicts.specs.Statuses.{IsTrueOf, Reaches}
 use Rattle.verdicts.specs.declared.status.Outcome as status
 use Rattle.verdicts.specs.Engine.{configuration}

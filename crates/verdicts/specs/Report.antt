@@ -3,9 +3,9 @@ use Rattle.std.specs.Prelude.{ℕ, ◌+◌, Bool, true, false, ◌==◌, if◌th
 use Rattle.std.specs.Fmt.{decimal}
 use Rattle.vk_core.specs.Class.{name_of_class}
 use Rattle.vk_core.specs.declared.check.Site.{Site}
-use Rattle.mir_ir.specs.declared.kinds.Choice.{Choice}
-use Rattle.mir_ir.specs.declared.kinds.ValueKind.{ValueKind}
-use Rattle.mir_ir.specs.declared.kinds.ValueKind.TheVariants as kind
+use Rattle.form_ir.specs.declared.kinds.Choice.{Choice}
+use Rattle.form_ir.specs.declared.kinds.ValueKind.{ValueKind}
+use Rattle.form_ir.specs.declared.kinds.ValueKind.TheVariants as kind
 use Rattle.verdicts.specs.declared.checks.Check.{Check}
 use Rattle.verdicts.specs.declared.status.CheckStatus.{CheckStatus}
 use Rattle.verdicts.specs.declared.status.Outcome.{Outcome}

@@ -1,11 +1,11 @@
 -- What the engine relies on: jumps go to greater numbers, blocks are short, and no text is switched on.
 use Rattle.std.specs.Prelude.{ℕ, ◌<◌, ◌≤◌, List, [], ◌∷◌, length, Option, Some, None}
-use Rattle.mir_ir.specs.declared.tree.Arm.{Arm}
-use Rattle.mir_ir.specs.declared.tree.Constant.TheVariants as constant
-use Rattle.mir_ir.specs.declared.tree.Operand.TheVariants as operand
-use Rattle.mir_ir.specs.declared.tree.Terminator.{Terminator}
-use Rattle.mir_ir.specs.declared.tree.Terminator.TheVariants as terminator
-use Rattle.mir_ir.specs.declared.tree.Block.{Block}
+use Rattle.form_ir.specs.declared.tree.Arm.{Arm}
+use Rattle.form_ir.specs.declared.tree.Constant.TheVariants as constant
+use Rattle.form_ir.specs.declared.tree.Operand.TheVariants as operand
+use Rattle.form_ir.specs.declared.tree.Terminator.{Terminator}
+use Rattle.form_ir.specs.declared.tree.Terminator.TheVariants as terminator
+use Rattle.form_ir.specs.declared.tree.Block.{Block}
 use Rattle.vk_core.specs.declared.ids.BlockId.{BlockId}
 
 abbrev pub ArmsGoOn : ℕ → List Arm → Type 0

@@ -1,9 +1,9 @@
 -- What may be told of the checks of a function.
 use Rattle.std.specs.Prelude.{◌≡◌, ◌⊎◌, ℕ, ◌-◌, ◌<◌, Bool, true, false, ◌&&◌, List, [], ◌∷◌}
 use Rattle.vk_core.specs.declared.check.Fault.{Fault}
-use Rattle.mir_ir.specs.declared.kinds.Choice.{Choice}
-use Rattle.mir_ir.specs.declared.tree.Function.{Function}
-use Rattle.mir_ir.specs.Run.{run, start, Running, Faulted}
+use Rattle.form_ir.specs.declared.kinds.Choice.{Choice}
+use Rattle.form_ir.specs.declared.tree.Function.{Function}
+use Rattle.form_ir.specs.Run.{run, start, Running, Faulted}
 use Rattle.verdicts.specs.Checks.{checks_of}
 use Rattle.verdicts.specs.declared.checks.Check.{Check}
 use Rattle.verdicts.specs.declared.status.CheckStatus.{CheckStatus}

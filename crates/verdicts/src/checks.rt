@@ -3,7 +3,7 @@ ghost use Rattle.verdicts.specs.Runnable.{Runnable};
 ghost use Rattle.verdicts.specs.Statuses.{EachFaultIsListed};
 ghost use Rattle.verdicts.specs.Checks.{asserted_text, assertion_checks, block_checks, call_checks, check_at, checks_behind, checks_in, checks_of, memory_checks, site_in, switch_checks, terminator_checks};
 
-use mir_ir::{Block, Builtin, Constant, Function, Operand, Statement, Terminator};
+use form_ir::{Block, Builtin, Constant, Function, Operand, Statement, Terminator};
 use std::alloc::Global;
 use vk_core::{BlockId, CheckClass, FnId, Name, NoMemory, Site};
 

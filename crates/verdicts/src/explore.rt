@@ -1,11 +1,11 @@
 ghost use Rattle.std.specs.Prelude.{◌≡◌, ℕ, ◌+◌, ◌<◌, ◌≤◌, [], ◌∷◌, ◌++◌, IfOk, OnOk, MatchOption, ◌↔◌, IsTrue};
-ghost use Rattle.mir_ir.specs.Run.{Chooses, step, site_of, start};
+ghost use Rattle.form_ir.specs.Run.{Chooses, step, site_of, start};
 ghost use Rattle.verdicts.specs.Engine.{configuration};
 ghost use Rattle.verdicts.specs.Findings.{Explored, HasFinding, IsBranch, IsFinding, IsSearched, IsWalk, Noted, Tried, most_steps};
 ghost use Rattle.verdicts.specs.Runnable.{Runnable};
 
 use crate::step::{State, Step, store, take_step};
-use mir_ir::{Choice, Function, ValueKind};
+use form_ir::{Choice, Function, ValueKind};
 use sqlite_items::Items;
 use std::alloc::Global;
 use vk_core::{BlockId, CheckClass, Fault, FnId, LocalId, NoMemory, Site};

@@ -6,8 +6,8 @@ ghost use Rattle.verdicts.specs.Statuses.{all_succeed, is_success};
 
 use crate::checks::Check;
 use crate::status::{CheckStatus, Outcome, UnitReport};
+use form_ir::{Choice, ValueKind};
 use itoa::Buffer;
-use mir_ir::{Choice, ValueKind};
 use std::alloc::Global;
 use vk_core::{CheckClass, Name, NoMemory, Site, class_name};
 

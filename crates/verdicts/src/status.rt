@@ -1,5 +1,5 @@
 use crate::checks::Check;
-use mir_ir::Choice;
+use form_ir::Choice;
 use sqlite_items::Items;
 use vk_core::Name;
 

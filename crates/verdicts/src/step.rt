@@ -1,8 +1,8 @@
 ghost use Rattle.std.specs.Prelude.{◌≡◌, ℕ, ◌+◌, ◌<◌, ◌≤◌, ◌^◌, [], ◌∷◌, length, None, Some, slice_index_or};
-ghost use Rattle.mir_ir.specs.Run.{Goes, assert_step, asserted, assigned, block_step, call_step, compared, entry_of, holds, number_of, operand_value, read_local, rvalue_value, step, stored, switched, target_of, terminator_step};
+ghost use Rattle.form_ir.specs.Run.{Goes, assert_step, asserted, assigned, block_step, call_step, compared, entry_of, holds, number_of, operand_value, read_local, rvalue_value, step, stored, switched, target_of, terminator_step};
 ghost use Rattle.verdicts.specs.Engine.{Does, configuration};
 
-use mir_ir::{
+use form_ir::{
     Arm, BinaryOp, Block, Builtin, Constant, Function, Operand, PlaceExpr, Rvalue, Statement,
     Terminator, ValueKind,
 };
@@ -34,7 +34,7 @@ pub enum Step {
 }
 
 /// Makes the next step of a run.
-#[tactic(auto, unfolding(mir_ir::specs::Run::step))]
+#[tactic(auto, unfolding(form_ir::specs::Run::step))]
 pub fn take_step(function: &Function, state: &mut State) -> Step
     ensures { Does (step function.now (configuration state.old)) result (configuration state.old) (configuration state.new) }
 {

@@ -1,5 +1,5 @@
 use crate::{Check, CheckStatus, Outcome, UnitReport, all_succeed, report_text};
-use mir_ir::{Choice, IntTy, ValueKind};
+use form_ir::{Choice, IntTy, ValueKind};
 use sqlite_items::Items;
 use std::alloc::Global;
 use std::test::Fail;

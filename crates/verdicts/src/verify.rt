@@ -1,5 +1,5 @@
 ghost use Rattle.std.specs.Prelude.{◌≡◌, ℕ, IfOk, OnOk, None, replicate, true};
-ghost use Rattle.mir_ir.specs.Run.{start};
+ghost use Rattle.form_ir.specs.Run.{start};
 ghost use Rattle.verdicts.specs.Engine.{configuration};
 ghost use Rattle.verdicts.specs.Findings.{IsSearched, TellsOutcome};
 ghost use Rattle.verdicts.specs.Runnable.{Runnable};
@@ -9,13 +9,13 @@ use crate::checks::{Check, checks_of};
 use crate::explore::{Finding, Walk, explore, finding_of};
 use crate::status::{CheckStatus, Outcome};
 use crate::step::State;
-use mir_ir::Function;
+use form_ir::Function;
 use sqlite_items::Items;
 use std::alloc::Global;
 use vk_core::{BlockId, Fault, NoMemory};
 
 /// Where a run begins.
-#[tactic(auto, unfolding(mir_ir::specs::Run::start))]
+#[tactic(auto, unfolding(form_ir::specs::Run::start))]
 fn start(alloc: Global, function: &Function) -> Result<State, NoMemory>
     ensures { IfOk result (λ state. configuration state ≡ start function.now) }
 {

@@ -1,6 +1,6 @@
 use Rattle.std.proofs.Common.{◌∙◌, [], ◌∷◌, MatchOption, subst, sym}
-use Rattle.mir_text.specs.Means.{IsMeaningless, Means}
-use Rattle.mir_text.proofs.Meanings.{one_meaning_holds}
+use Rattle.form_text.specs.Means.{IsMeaningless, Means}
+use Rattle.form_text.proofs.Meanings.{one_meaning_holds}
 use Rattle.kani_mir.proofs.JudgeLemmas.{form_of, judged_by_told, judged_without_meaning}
 use Rattle.kani_mir.proofs.LabelLemmas.{meant_within}
 use Rattle.kani_mir.proofs.judge.judge_text.Goals as goal

@@ -1,5 +1,5 @@
 use Rattle.std.proofs.Common.{◌≡◌, ◌<◌, ◌≤◌, ◌∙◌, ap, arith, refl, subst}
-use Rattle.mir_ir.specs.Run.{Configuration}
+use Rattle.form_ir.specs.Run.{Configuration}
 use Rattle.verdicts.proofs.RunLemmas.{fault_in}
 use Rattle.verdicts.specs.Engine.{configuration}
 use Rattle.verdicts.specs.Findings.{Explored, Tried}

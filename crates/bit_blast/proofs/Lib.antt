@@ -1,0 +1,10 @@
+pub mod Arithmetical
+pub mod Signed
+pub mod Tested
+pub mod Moved
+pub mod Magnitudes
+pub mod Divided
+pub mod Exceeded
+pub mod Placing
+pub mod Blasting
+pub mod Finished

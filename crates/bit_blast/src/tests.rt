@@ -1,0 +1,26 @@
+use super::*;
+use std::test::Fail;
+use sym_terms::{Term, TermOp, Terms};
+
+#[test]
+fn gates_of_a_doubled_input(rt: HostRuntime) -> Result<(), Fail> {
+    let alloc = rt.alloc();
+    let mut terms = Terms::new(alloc);
+    let a = terms.insert(Term::Input {
+        number: 0,
+        width: 8,
+    })?;
+    let sum = terms.insert(Term::Apply {
+        op: TermOp::Add,
+        a,
+        b: a,
+    })?;
+    let gates = blast(alloc, &terms, &[sum])?;
+    assert_eq!(rt; gates.inputs.len(), 8);
+    assert_eq!(rt; gates.roots.len(), 1);
+    assert!(rt;
+        gates.gates.len() <= 25,
+        "three gates a bit and the constant"
+    );
+    Ok(())
+}

@@ -1,0 +1,24 @@
+-- Which function of the `kani` crate a callee is, by its canonical path.
+use Rattle.std.specs.Prelude.{Bool, if◌then◌else◌, Option, Some, None, option_map, codes, nat_eq}
+use Rattle.std.specs.List.{starts_with}
+use Rattle.std.specs.Str.{bytes_eq}
+use Rattle.form_ir.specs.declared.tree.Ty.{Ty}
+use Rattle.form_ir.specs.declared.tree.Callee.{Callee}
+use Rattle.form_ir.specs.declared.builtins.Builtin.{Builtin}
+use Rattle.form_ir.specs.declared.builtins.Builtin.TheVariants as builtin
+use Rattle.form_ir.specs.Kinds.{kind_of}
+
+-- `kani::assert`, which has no type argument
+abbrev pub is_assert : Callee → Bool
+is_assert c = bytes_eq c.path (codes "kani::assert")
+
+-- `kani::any<T>`
+abbrev pub is_any : Callee → Bool
+is_any c = starts_with nat_eq c.path (codes "kani::any<")
+
+abbrev pub any_of : Option Ty → Option Builtin
+any_of None = None
+any_of (Some t) = option_map builtin.Any (kind_of t)
+
+abbrev pub builtin_of : Callee → Option Builtin
+builtin_of c = if is_any c then any_of c.argument else (if is_assert c then Some builtin.Assert else None)
