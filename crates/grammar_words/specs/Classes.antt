@@ -1,0 +1,40 @@
+-- Productions out of classes of tokens. c gives each token's class, a number; a set of classes is a list.
+use Rattle.std.specs.Prelude.{ℕ, Bool, true, false, ◌&&◌, not, ◌==◌, if◌then◌else◌, List, [], ◌∷◌}
+use Rattle.grammar_words.specs.Grammar.{Part, One, Then, Made, starts}
+use Rattle.grammar_words.specs.Reading.{Reader, one, joined, made, first, second}
+
+abbrev pub has : List ℕ → ℕ → Bool
+has [] n = false
+has (x ∷ set) n = if x == n then true else has set n
+
+unfoldable pub inside : {K : Type 0} → (K → ℕ) → List ℕ → K → Bool
+inside c set t = has set (c t)
+
+unfoldable pub outside : {K : Type 0} → (K → ℕ) → List ℕ → K → Bool
+outside c set t = not (has set (c t))
+
+-- a token of these classes
+abbrev pub Tok : {K : Type 0} → (K → ℕ) → List ℕ → Part K K
+Tok c set = One (inside c set)
+
+abbrev pub tok : {K : Type 0} → (K → ℕ) → List ℕ → Reader K K
+tok c set = one (inside c set)
+
+-- a token of these classes, and then a part that says it all
+abbrev pub Past : {K A : Type 0} → (K → ℕ) → List ℕ → Part K A → Part K A
+Past c set R = Made second (Then (Tok c set) R)
+
+abbrev pub past : {K A : Type 0} → (K → ℕ) → List ℕ → Reader K A → Reader K A
+past c set p = made second (joined (tok c set) p)
+
+-- a part that says it all, and then a token of these classes
+abbrev pub Ended : {K A : Type 0} → (K → ℕ) → Part K A → List ℕ → Part K A
+Ended c R set = Made first (Then R (Tok c set))
+
+abbrev pub ended : {K A : Type 0} → (K → ℕ) → Reader K A → List ℕ → Reader K A
+ended c p set = made first (joined p (tok c set))
+
+-- a token of b comes, but not one of k before one of d
+abbrev pub bare : {K : Type 0} → (K → ℕ) → List ℕ → List ℕ → List ℕ → List K → Bool
+bare c b k d [] = false
+bare c b k d (t ∷ ts) = inside c b t && not (inside c k t && starts (inside c d) ts)

@@ -1,0 +1,4 @@
+pub mod Classes
+pub mod Exact
+pub mod Grammar
+pub mod Reading
