@@ -112,6 +112,7 @@ chained-laws {K} {A} {B} {s} {z} {x} {R} {W} {H} {Q} {V} {G} {p} {w} {q} {v} l k
   account = λ ts. chained_account s z R W Q V p w q v ts leads (λ a. (k a).sentence) (λ a us. (k a).account us) (p ts) (l.account ts);
   again = λ y ts rest b h e. after_agrees x b.0 b.1 h.0 rest q (p ts) (l.again y ts h.0 b.0 h.1 (holed y b.0 h.0 rest b.1 h.2 e)) ((k b.0).again y h.0 rest b.1 h.2 e);
   loose = λ y ts rest b h. (h.0, l.loose y ts h.0 b.0 h.1, (k b.0).loose y h.0 rest b.1 h.2);
+  wide = λ ts rest b h. (h.0, l.wide ts h.0 b.0 h.1, (k b.0).wide h.0 rest b.1 h.2);
   sentence = goes_then s z W V leads (λ a. (k a).sentence) [] l.sentence;
 }
 

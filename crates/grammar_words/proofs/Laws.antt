@@ -65,6 +65,7 @@ pub record Laws {K A : Type 0} (s : K → Bool) (x : List K) (R W : Part K A) (H
   pub account : (ts : List K) → Account s R W p w ts (p ts)
   pub again : (y ts rest : List K) (a : A) → H y ts a rest → ends s rest ≡ true → Agrees x (p ts) a rest
   pub loose : (y ts rest : List K) (a : A) → R ts a rest → H y ts a rest
+  pub wide : (ts rest : List K) (a : A) → R ts a rest → W ts a rest
   pub sentence : Goes s W []
 
 abbrev pub any : {K : Type 0} → K → Bool
@@ -115,6 +116,7 @@ one-laws test t h x = record {
   account = one_account test t h;
   again = λ y ts rest a g e. one_again test x ts rest a g;
   loose = λ y ts rest a g. g;
+  wide = λ ts rest a g. g;
   sentence = (t ∷ [], t, λ k e. (h, refl));
 }
 
@@ -129,6 +131,7 @@ nothing-laws s x a = record {
   };
   again = λ y ts rest b h e. (sym h.0, sym h.1);
   loose = λ y ts rest b h. h;
+  wide = λ ts rest b h. h;
   sentence = ([], a, λ k e. (refl, refl));
 }
 

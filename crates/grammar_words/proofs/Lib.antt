@@ -2,3 +2,9 @@ pub mod Laws
 pub mod Spelled
 pub mod Made
 pub mod Join
+pub mod Pick
+pub mod Limit
+pub mod Sets
+pub mod Many
+pub mod Until
+pub mod Whole

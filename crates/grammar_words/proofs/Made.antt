@@ -47,5 +47,6 @@ made-laws {K} {A} {B} {s} {x} {R} {W} {H} {p} {w} f l = record {
   };
   again = λ y ts rest b h e. rw (← h.1) (made_agrees f x (p ts) h.0 rest (l.again y ts rest h.0 h.2 e));
   loose = λ y ts rest b h. (h.0, h.1, l.loose y ts rest h.0 h.2);
+  wide = λ ts rest b h. (h.0, h.1, l.wide ts rest h.0 h.2);
   sentence = made_goes s W f [] l.sentence;
 }

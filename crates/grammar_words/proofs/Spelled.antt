@@ -14,7 +14,7 @@ Narrower {K} z s = (k : List K) → ends z k ≡ true → ends s k ≡ true
 pub goes_on : {K A : Type 0} (s z : K → Bool) (W V : Part K A) → Narrower z s → Within W V → (f : List K) → Goes s W f → Goes z V f
 goes_on s z W V n i f g = (g.0, g.1, λ k e. i (f ++ (g.0 ++ k)) k g.1 (g.2 k (n k e)))
 
-follows_on : {K A : Type 0} (s z : K → Bool) (R W Q V : Part K A) → Narrower z s → Within R Q → Within W V → (ts f : List K) (o : Outcome K A) → Follows s R W ts f o → Follows z Q V ts f o
+pub follows_on : {K A : Type 0} (s z : K → Bool) (R W Q V : Part K A) → Narrower z s → Within R Q → Within W V → (ts f : List K) (o : Outcome K A) → Follows s R W ts f o → Follows z Q V ts f o
 follows_on s z R W Q V n i j ts f (Got a rest) h = (i ts rest a h.0, λ k. j (f ++ k) k a (h.1 k))
 follows_on s z R W Q V n i j ts f (Fault Wrong rest) h = goes_on s z W V n j f h
 follows_on s z R W Q V n i j ts f (Fault Deep []) h = h
@@ -33,6 +33,7 @@ narrower {K} {A} {s} {z} {x} {R} {W} {H} {p} {w} n l = record {
   };
   again = λ y ts rest a h e. l.again y ts rest a h (n rest e);
   loose = l.loose;
+  wide = l.wide;
   sentence = goes_on s z W W n (λ us rest a h. h) [] l.sentence;
 }
 
@@ -49,5 +50,6 @@ spelled {K} {A} {s} {x} {R} {W} {Q} {V} {H} {G} {p} {w} on off wide holed back l
   };
   again = λ y ts rest a h e. l.again y ts rest a (back y ts rest a h) e;
   loose = λ y ts rest a h. holed y ts rest a (l.loose y ts rest a (off ts rest a h));
+  wide = λ ts rest a h. wide ts rest a (l.wide ts rest a (off ts rest a h));
   sentence = goes_on s s W V (λ k e. e) wide [] l.sentence;
 }
