@@ -9,7 +9,7 @@ use Rattle.grammar_words.proofs.Laws.{ends, left, with_left, is_firm, Agrees, Go
 use Rattle.grammar_words.proofs.Made.{turned_left, turned_with, turned_firm}
 
 -- a part goes on, and then the second one
-goes_then : {K A B : Type 0} (s z : K → Bool) (W : Part K A) (V : A → Part K B) → ((a : A) (ts rest : List K) (b : B) → V a ts b rest → ends z rest ≡ true → ends s ts ≡ true) → ((a : A) → Goes z (V a) [])
+pub goes_then : {K A B : Type 0} (s z : K → Bool) (W : Part K A) (V : A → Part K B) → ((a : A) (ts rest : List K) (b : B) → V a ts b rest → ends z rest ≡ true → ends s ts ≡ true) → ((a : A) → Goes z (V a) [])
     → (f : List K) → Goes s W f → Goes z (Chain W V) f
 goes_then s z W V leads sentence f g =
     let n = sentence g.1 in

@@ -8,3 +8,5 @@ pub mod Sets
 pub mod Many
 pub mod Until
 pub mod Whole
+pub mod Ready
+pub mod ReadyJoin
