@@ -10,3 +10,6 @@ pub mod Until
 pub mod Whole
 pub mod Ready
 pub mod ReadyJoin
+pub mod ReadyMany
+pub mod ReadyUntil
+pub mod ReadyLimit

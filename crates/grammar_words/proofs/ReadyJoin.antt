@@ -71,7 +71,7 @@ then_opens c g h W V o n ts rest a v = elim (o ts v.0 a.0 v.1) [
 pub left_short : {K A : Type 0} {s : K → Bool} {x : List K} {R W : Part K A} {H : List K → Part K A} {p w : Reader K A} → Laws s x R W H p w → (ts : List K) → length (left (p ts)) ≤ length ts
 left_short {K} {A} {s} {x} {R} {W} {H} {p} {w} l ts = let a = l.account ts in let e : length ts ≡ length a.front + length (left (p ts)) = ap length a.splits ∙ length-append a.front (left (p ts)) in omega arith
 
-after_spent : {K A B : Type 0} (m : ℕ) (q : A → Reader K B) (o : Outcome K A) → ((a : A) → Ample m (q a)) → length (left o) < m → is_spent o ≡ false → is_spent (after (λ a r. turned (pair a) (q a r)) o) ≡ false
+pub after_spent : {K A B : Type 0} (m : ℕ) (q : A → Reader K B) (o : Outcome K A) → ((a : A) → Ample m (q a)) → length (left o) < m → is_spent o ≡ false → is_spent (after (λ a r. turned (pair a) (q a r)) o) ≡ false
 after_spent m q (Got a mid) h b e = made_spent (pair a) (q a mid) (h a mid b)
 after_spent m q (Fault Wrong r) h b e = refl
 after_spent m q (Fault Deep r) h b e = refl
@@ -82,7 +82,7 @@ unfolding chained
 chained_ample m p q s h n ts b = let l = s ts in after_spent m q (p ts) n (omega arith) (h ts b)
 
 -- a second part that is too deep, or the first one
-after_deep : {K A B : Type 0} (q : A → Reader K B) (x : List K) (o : Outcome K A) → after (λ a r. turned (pair a) (q a r)) o ≡ Fault Deep x → (o ≡ Fault Deep x) ⊎ ((a : A) × (mid : List K) × (o ≡ Got a mid) × (q a mid ≡ Fault Deep x))
+pub after_deep : {K A B : Type 0} (q : A → Reader K B) (x : List K) (o : Outcome K A) → after (λ a r. turned (pair a) (q a r)) o ≡ Fault Deep x → (o ≡ Fault Deep x) ⊎ ((a : A) × (mid : List K) × (o ≡ Got a mid) × (q a mid ≡ Fault Deep x))
 after_deep q x (Got a mid) e = inr (a, mid, refl, made_deep (pair a) (q a mid) x e)
 after_deep q x (Fault why r) e = inl cc
 

@@ -34,7 +34,7 @@ until_off R ts rest (s ∷ ss) t h = ((More s, (s ∷ ss, t)), refl, (h.0, h.1, 
 pub lines_off : {K S T : Type 0} (R : Part K (Next S T)) → Within (Lines R) (Line_first R)
 lines_off R ts rest v h = until_off R ts rest v.0 v.1 h
 
-until_within : {K S T : Type 0} (R Q : Part K (Next S T)) → Within R Q → (ts rest : List K) (ss : List S) (t : T) → Until R ts ss t rest → Until Q ts ss t rest
+pub until_within : {K S T : Type 0} (R Q : Part K (Next S T)) → Within R Q → (ts rest : List K) (ss : List S) (t : T) → Until R ts ss t rest → Until Q ts ss t rest
 until_within R Q h ts rest [] t m = h ts rest (Last t) m
 until_within R Q h ts rest (s ∷ ss) t m = (m.0, h ts m.0 (More s) m.1, until_within R Q h m.0 rest ss t m.2)
 
