@@ -13,3 +13,4 @@ pub mod ReadyJoin
 pub mod ReadyMany
 pub mod ReadyUntil
 pub mod ReadyLimit
+pub mod Fork

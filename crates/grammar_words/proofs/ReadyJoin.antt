@@ -194,7 +194,7 @@ choose_pins s x H G test p q f g ts e = elim (choose_deep test p q ts x (test ts
     inl d ↦ let i = f ts d in (i.0, i.1, λ k n. inl (i.2 k n))
     | inr d ↦ let i = g ts d in (i.0, i.1, λ k n. inr (i.2 k n)) ]
 
-or_near : {K A : Type 0} (s : K → Bool) (R Q : Part K A) (a b : Bool) → (a || b) ≡ true → (a ≡ true → Goes s R []) → (b ≡ true → Goes s Q []) → Goes s (Either R Q) []
+pub or_near : {K A : Type 0} (s : K → Bool) (R Q : Part K A) (a b : Bool) → (a || b) ≡ true → (a ≡ true → Goes s R []) → (b ≡ true → Goes s Q []) → Goes s (Either R Q) []
 or_near s R Q true b e f g = goes_on s s R (Either R Q) (λ k n. n) (λ ts rest a n. inl n) [] (f refl)
 or_near s R Q false b e f g = goes_on s s Q (Either R Q) (λ k n. n) (λ ts rest a n. inr n) [] (g e)
 
