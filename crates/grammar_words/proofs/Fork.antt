@@ -75,8 +75,8 @@ fork_settled c b k d p q f g (a ∷ []) u v t e = refl
 fork_settled c b k d p q f g (a ∷ a' ∷ f') u v t e = refl
 
 -- what the test says of the tokens of a part, where these may stand behind it
-abbrev pub Seen : {K A : Type 0} → (K → ℕ) → List ℕ → List ℕ → List ℕ → (K → Bool) → Bool → Part K A → Type 0
-Seen {K} {A} c b k d z v R = (ts rest : List K) (a : A) → R ts a rest → ends z rest ≡ true → bare c b k d ts ≡ v
+pub record Seen {K A : Type 0} (c : K → ℕ) (b k d : List ℕ) (z : K → Bool) (v : Bool) (R : Part K A) : Type 0 where
+  pub sees : (ts rest : List K) (a : A) → R ts a rest → ends z rest ≡ true → bare c b k d ts ≡ v
 
 abbrev pub fork_shape : Shape → Shape → Shape
 fork_shape g h = record { stops = g.stops ++ h.stops; firsts = g.firsts ++ h.firsts; empty = false; flat = g.flat && h.flat; near = g.near || h.near }
@@ -99,7 +99,7 @@ fork-ready {K} {A} {c} {m} {g} {h} {x} {R} {W} {Q} {V} {H} {G} {p} {w} {q} {v} b
     let slim : Narrower z (outside c g.stops) = ends_left c g.stops h.stops in
     let thin : Narrower z (outside c h.stops) = ends_right c g.stops h.stops in
     record {
-  laws = choose-laws (bare c b k d) (narrower slim r.laws) (narrower thin n.laws) (fork_settled c b k d p q f i) on off;
+  laws = choose-laws (bare c b k d) (narrower slim r.laws) (narrower thin n.laws) (fork_settled c b k d p q f i) (λ y. (on y).sees) (λ y. (off y).sees);
   ample = choose_ample m (bare c b k d) p q r.ample n.ample;
   opens = both_open c g h W V j.0 j.1 r.opens n.opens;
   opens_holed = λ y. both_open c g h (H y) (G y) j.0 j.1 (r.opens_holed y) (n.opens_holed y);

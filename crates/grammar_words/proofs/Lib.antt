@@ -14,3 +14,5 @@ pub mod ReadyMany
 pub mod ReadyUntil
 pub mod ReadyLimit
 pub mod Fork
+pub mod Seen
+pub mod ReadyWords

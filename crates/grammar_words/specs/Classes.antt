@@ -1,7 +1,7 @@
 -- Productions out of classes of tokens. c gives each token's class, a number; a set of classes is a list.
 use Rattle.std.specs.Prelude.{ℕ, Bool, true, false, ◌&&◌, not, ◌==◌, if◌then◌else◌, List, [], ◌∷◌}
-use Rattle.grammar_words.specs.Grammar.{Part, One, Then, Made, starts}
-use Rattle.grammar_words.specs.Reading.{Reader, one, joined, made, first, second}
+use Rattle.grammar_words.specs.Grammar.{Part, One, Nothing, Then, Made, Either, Each, starts}
+use Rattle.grammar_words.specs.Reading.{Reader, one, nothing, joined, made, pick, many, cons, first, second}
 
 abbrev pub has : List ℕ → ℕ → Bool
 has [] n = false
@@ -38,3 +38,18 @@ ended c p set = made first (joined p (tok c set))
 abbrev pub bare : {K : Type 0} → (K → ℕ) → List ℕ → List ℕ → List ℕ → List K → Bool
 bare c b k d [] = false
 bare c b k d (t ∷ ts) = inside c b t && not (inside c k t && starts (inside c d) ts)
+
+-- a part, or none, and then this value
+abbrev pub Perhaps : {K A : Type 0} → A → Part K A → Part K A
+Perhaps a R = Either R (Nothing a)
+
+-- where one of its first tokens comes
+abbrev pub perhaps : {K A : Type 0} → (K → ℕ) → List ℕ → A → Reader K A → Reader K A
+perhaps c b a p = pick (inside c b) p (nothing a)
+
+-- any number of parts with a token of k between each two
+abbrev pub Listed : {K A : Type 0} → (K → ℕ) → List ℕ → Part K A → Part K (List A)
+Listed c k R = Perhaps [] (Made cons (Then R (Each (Past c k R))))
+
+abbrev pub listed : {K A : Type 0} → (K → ℕ) → List ℕ → List ℕ → Reader K A → ℕ → Reader K (List A)
+listed c b k p m = perhaps c b [] (made cons (joined p (many (inside c k) (past c k p) m)))
