@@ -16,3 +16,4 @@ pub mod ReadyLimit
 pub mod Fork
 pub mod Seen
 pub mod ReadyWords
+pub mod Trailing

@@ -44,7 +44,7 @@ none_starts z test h a ts rest b n e = h ts (subst (λ k. ends z k ≡ true) n.1
 some_goes : {K A : Type 0} (s z test : K → Bool) (W : Part K A) (H : List K → Part K A) → Repeats s z test W H → Goes s W [] → Goes z (Some_of W) []
 some_goes s z test W H r g = (g.0, g.1 ∷ [], λ k e. ((g.1, []), refl, (k, g.2 k (r.narrow k e), refl)))
 
-each_within : {K A : Type 0} (R Q : Part K A) → Within R Q → (ts rest : List K) (as_ : List A) → Each R ts as_ rest → Each Q ts as_ rest
+pub each_within : {K A : Type 0} (R Q : Part K A) → Within R Q → (ts rest : List K) (as_ : List A) → Each R ts as_ rest → Each Q ts as_ rest
 each_within R Q h ts rest [] m = m
 each_within R Q h ts rest (a ∷ as_) m = (m.0, h ts m.0 a m.1, each_within R Q h m.0 rest as_ m.2)
 

@@ -50,7 +50,7 @@ unfolding made
 turn_spent test p r ts true e h = rw (chosen_true (starts test) (made cons (joined p r)) (nothing []) ts e) (made_spent cons (joined p r ts) (h refl))
 turn_spent test p r ts false e h = rw (chosen_false (starts test) (made cons (joined p r)) (nothing []) ts e) refl
 
-one_turn : {K A : Type 0} (n : ℕ) (r : Reader K (List A)) (ts : List K) (o : Outcome K A) → Ample n r → ((mid : List K) (a : A) → o ≡ Got a mid → length mid < n) → is_spent o ≡ false → is_spent (after (λ a k. turned (pair a) (r k)) o) ≡ false
+pub one_turn : {K A B : Type 0} (n : ℕ) (r : Reader K B) (ts : List K) (o : Outcome K A) → Ample n r → ((mid : List K) (a : A) → o ≡ Got a mid → length mid < n) → is_spent o ≡ false → is_spent (after (λ a k. turned (pair a) (r k)) o) ≡ false
 one_turn n r ts (Got a mid) h b e = made_spent (pair a) (r mid) (h mid (b mid a refl))
 one_turn n r ts (Fault Wrong k) h b e = refl
 one_turn n r ts (Fault Deep k) h b e = refl

@@ -1,7 +1,7 @@
 -- Productions out of classes of tokens. c gives each token's class, a number; a set of classes is a list.
-use Rattle.std.specs.Prelude.{ℕ, Bool, true, false, ◌&&◌, not, ◌==◌, if◌then◌else◌, List, [], ◌∷◌}
+use Rattle.std.specs.Prelude.{ℕ, zero, suc, Bool, true, false, ◌&&◌, not, ◌==◌, if◌then◌else◌, List, [], ◌∷◌}
 use Rattle.grammar_words.specs.Grammar.{Part, One, Nothing, Then, Made, Either, Each, starts}
-use Rattle.grammar_words.specs.Reading.{Reader, one, nothing, joined, made, pick, many, cons, first, second}
+use Rattle.grammar_words.specs.Reading.{Reader, one, nothing, joined, made, pick, many, spent, cons, first, second}
 
 abbrev pub has : List ℕ → ℕ → Bool
 has [] n = false
@@ -53,3 +53,23 @@ Listed c k R = Perhaps [] (Made cons (Then R (Each (Past c k R))))
 
 abbrev pub listed : {K A : Type 0} → (K → ℕ) → List ℕ → List ℕ → Reader K A → ℕ → Reader K (List A)
 listed c b k p m = perhaps c b [] (made cons (joined p (many (inside c k) (past c k p) m)))
+
+-- whether a token of k stands there
+abbrev pub Perhaps_token : {K : Type 0} → (K → ℕ) → List ℕ → Part K Bool
+Perhaps_token c k = Perhaps false (Made (λ t. true) (Tok c k))
+
+-- any number of parts with a token of k between each two, and whether one stands behind them
+abbrev pub Trailed : {K A : Type 0} → (K → ℕ) → List ℕ → Part K A → Part K (List A × Bool)
+Trailed c k R = Then (Listed c k R) (Perhaps_token c k)
+
+-- a part before the others
+abbrev pub lead : {A : Type 0} → A × (List A × Bool) → List A × Bool
+lead v = (v.0 ∷ v.1.0, v.1.1)
+
+-- behind a part: a token of k, and then another part or the end
+abbrev pub trail : {K A : Type 0} → (K → ℕ) → List ℕ → List ℕ → Reader K A → ℕ → Reader K (List A × Bool)
+trail c b k p zero = pick (inside c k) spent (nothing ([], false))
+trail c b k p (suc n) = pick (inside c k) (past c k (pick (inside c b) (made lead (joined p (trail c b k p n))) (nothing ([], true)))) (nothing ([], false))
+
+abbrev pub trailed : {K A : Type 0} → (K → ℕ) → List ℕ → List ℕ → Reader K A → ℕ → Reader K (List A × Bool)
+trailed c b k p m = pick (inside c b) (made lead (joined p (trail c b k p m))) (pick (inside c k) (made (λ t. ([], true)) (tok c k)) (nothing ([], false)))
