@@ -1,17 +1,16 @@
 -- One part or another by two tokens: the first part at the tokens b, but the second one where a token of k stands before
 -- one of d.
-use Rattle.std.proofs.Common.{◌≡◌, ◌⊎◌, inl, inr, ℕ, suc, ◌<◌, ◌≤◌, ◌+◌, Bool, true, false, ◌&&◌, ◌||◌, not, if◌then◌else◌, List, [], ◌∷◌, ◌++◌, length, refl, ap, ◌∙◌, sym, subst, arith}
-use Rattle.grammar_words.specs.Grammar.{Part, Then, Made, Either, starts}
-use Rattle.grammar_words.specs.Reading.{Outcome, Got, Fault, Reader, pair, after, turned, one, made, joined, chained, choose, pick, guard}
-use Rattle.grammar_words.specs.Classes.{has, inside, outside, Tok, tok, bare}
-use Rattle.grammar_words.proofs.Laws.{any, ends, ends_any, left, Goes, Account, Laws}
-use Rattle.grammar_words.proofs.Whole.{Ample, Pins}
+use Rattle.std.proofs.Common.{◌≡◌, inl, inr, ℕ, suc, ◌≤◌, Bool, true, false, ◌&&◌, ◌||◌, not, List, [], ◌∷◌, ◌++◌, length, refl, ap, ◌∙◌, sym, subst, arith}
+use Rattle.grammar_words.specs.Grammar.{Part, Either, starts}
+use Rattle.grammar_words.specs.Reading.{Outcome, Got, Fault, Reader, pair, after, turned, made, joined, chained, choose, pick, guard}
+use Rattle.grammar_words.specs.Classes.{inside, outside, tok, bare}
+use Rattle.grammar_words.proofs.Laws.{ends, left}
 use Rattle.grammar_words.proofs.Spelled.{Narrower, narrower, goes_on}
 use Rattle.grammar_words.proofs.Made.{turned_left}
 use Rattle.grammar_words.proofs.Limit.{guarded_true}
 use Rattle.grammar_words.proofs.Pick.{IsSettled, choose-laws, chosen_true, chosen_false}
-use Rattle.grammar_words.proofs.Sets.{subset, apart, subset_has, apart_has, starts_subset, starts_apart, starts_left, starts_right, ends_left, ends_right, ends_subset, ends_not}
-use Rattle.grammar_words.proofs.Ready.{Shape, Opens, NoDeep, Ready, both_true}
+use Rattle.grammar_words.proofs.Sets.{subset, apart, subset_has, apart_has, starts_left, starts_right, ends_left, ends_right}
+use Rattle.grammar_words.proofs.Ready.{Shape, Opens, Ready, both_true}
 use Rattle.grammar_words.proofs.ReadyJoin.{choose_ample, choose_flat, choose_pins, or_near}
 
 -- p takes each token of these classes that comes first
@@ -83,8 +82,9 @@ fork_shape g h = record { stops = g.stops ++ h.stops; firsts = g.firsts ++ h.fir
 
 both_open : {K A : Type 0} (c : K → ℕ) (g h : Shape) (W V : Part K A) → not g.empty ≡ true → not h.empty ≡ true → Opens c g W → Opens c h V → Opens c (fork_shape g h) (Either W V)
 both_open c g h W V e i o n ts rest a d = elim d [
-    inl w ↦ elim (o ts rest a w) [ inl f ↦ inl (starts_left c g.firsts h.firsts ts f) | inr f ↦ absurd (let j : not true ≡ true = subst (λ u. not u ≡ true) f.0 e in cc) ]
-    | inr w ↦ elim (n ts rest a w) [ inl f ↦ inl (starts_right c g.firsts h.firsts ts f) | inr f ↦ absurd (let j : not true ≡ true = subst (λ u. not u ≡ true) f.0 i in cc) ] ]
+  | inl w ↦ elim (o ts rest a w) [ inl f ↦ inl (starts_left c g.firsts h.firsts ts f) | inr f ↦ absurd (let j : not true ≡ true = subst (λ u. not u ≡ true) f.0 e in cc) ]
+  | inr w ↦ elim (n ts rest a w) [ inl f ↦ inl (starts_right c g.firsts h.firsts ts f) | inr f ↦ absurd (let j : not true ≡ true = subst (λ u. not u ≡ true) f.0 i in cc) ]
+]
 
 abbrev pub fits_fork : Shape → Shape → Bool
 fits_fork g h = not g.empty && not h.empty
@@ -99,11 +99,11 @@ fork-ready {K} {A} {c} {m} {g} {h} {x} {R} {W} {Q} {V} {H} {G} {p} {w} {q} {v} b
     let slim : Narrower z (outside c g.stops) = ends_left c g.stops h.stops in
     let thin : Narrower z (outside c h.stops) = ends_right c g.stops h.stops in
     record {
-  laws = choose-laws (bare c b k d) (narrower slim r.laws) (narrower thin n.laws) (fork_settled c b k d p q f i) (λ y. (on y).sees) (λ y. (off y).sees);
-  ample = choose_ample m (bare c b k d) p q r.ample n.ample;
-  opens = both_open c g h W V j.0 j.1 r.opens n.opens;
-  opens_holed = λ y. both_open c g h (H y) (G y) j.0 j.1 (r.opens_holed y) (n.opens_holed y);
-  flat = λ o. let a = both_true g.flat h.flat o in choose_flat (bare c b k d) p q (r.flat a.0) (n.flat a.1);
-  near = λ o. or_near z R Q g.near h.near o (λ a. goes_on (outside c g.stops) z R R slim (λ ts rest l s. s) [] (r.near a)) (λ a. goes_on (outside c h.stops) z Q Q thin (λ ts rest l s. s) [] (n.near a));
-  pins = choose_pins z x H G (bare c b k d) p q (λ ts o. let a = r.pins ts o in (a.0, a.1, λ l s. a.2 l (slim l s))) (λ ts o. let a = n.pins ts o in (a.0, a.1, λ l s. a.2 l (thin l s)));
-}
+      laws = choose-laws (bare c b k d) (narrower slim r.laws) (narrower thin n.laws) (fork_settled c b k d p q f i) (λ y. (on y).sees) (λ y. (off y).sees);
+      ample = choose_ample m (bare c b k d) p q r.ample n.ample;
+      opens = both_open c g h W V j.0 j.1 r.opens n.opens;
+      opens_holed = λ y. both_open c g h (H y) (G y) j.0 j.1 (r.opens_holed y) (n.opens_holed y);
+      flat = λ o. let a = both_true g.flat h.flat o in choose_flat (bare c b k d) p q (r.flat a.0) (n.flat a.1);
+      near = λ o. or_near z R Q g.near h.near o (λ a. goes_on (outside c g.stops) z R R slim (λ ts rest l s. s) [] (r.near a)) (λ a. goes_on (outside c h.stops) z Q Q thin (λ ts rest l s. s) [] (n.near a));
+      pins = choose_pins z x H G (bare c b k d) p q (λ ts o. let a = r.pins ts o in (a.0, a.1, λ l s. a.2 l (slim l s))) (λ ts o. let a = n.pins ts o in (a.0, a.1, λ l s. a.2 l (thin l s)));
+    }

@@ -1,11 +1,11 @@
 -- Laws of one part and then another.
 use Rattle.std.proofs.Common.{◌≡◌, Bool, true, List, [], ◌∷◌, ◌++◌, refl, ap, ◌∙◌, sym}
-use Rattle.std.proofs.lemmas.List.{append_assoc, append_cancel_right, append-nil}
+use Rattle.std.proofs.lemmas.List.{append_assoc, append-nil}
 use Rattle.grammar_words.specs.declared.stop.Why.{Why}
 use Rattle.grammar_words.specs.declared.stop.Why.TheVariants.{Wrong, Deep, Spent}
 use Rattle.grammar_words.specs.Grammar.{Part, Chain, Then}
 use Rattle.grammar_words.specs.Reading.{Outcome, Got, Fault, Reader, pair, after, turned, chained, joined}
-use Rattle.grammar_words.proofs.Laws.{ends, left, with_left, is_firm, Agrees, Goes, Follows, Account, Laws}
+use Rattle.grammar_words.proofs.Laws.{ends, left, is_firm, Agrees, Goes, Follows, Account, Laws}
 use Rattle.grammar_words.proofs.Made.{turned_left, turned_with, turned_firm}
 
 -- a part goes on, and then the second one
@@ -49,11 +49,11 @@ got_keeps p f mid a h (b ∷ g) u v t e = rw append_assoc (h b (g ++ t ∷ u) (g
 both_left : {K A B : Type 0} (a : A) (o : Outcome K B) (g : List K) (mid : List K) → mid ≡ g ++ left o → mid ≡ g ++ left (turned (pair a) o)
 both_left a o g mid e = rw turned_left e
 
-chained_got : {K A B : Type 0} (p : Reader K A) (q : A → Reader K B) (ts mid : List K) (a : A) → p ts ≡ Got a mid → chained p q ts ≡ turned (pair a) (q a mid)
+pub chained_got : {K A B : Type 0} (p : Reader K A) (q : A → Reader K B) (ts mid : List K) (a : A) → p ts ≡ Got a mid → chained p q ts ≡ turned (pair a) (q a mid)
 unfolding chained
 chained_got p q ts mid a e = ap (after (λ c r. turned (pair c) (q c r))) e
 
-chained_fault : {K A B : Type 0} (p : Reader K A) (q : A → Reader K B) (ts rest : List K) (why : Why) → p ts ≡ Fault why rest → chained p q ts ≡ Fault why rest
+pub chained_fault : {K A B : Type 0} (p : Reader K A) (q : A → Reader K B) (ts rest : List K) (why : Why) → p ts ≡ Fault why rest → chained p q ts ≡ Fault why rest
 unfolding chained
 chained_fault p q ts rest why e = ap (after (λ c r. turned (pair c) (q c r))) e
 
@@ -64,9 +64,9 @@ got_account s z R W Q V p w q v ts mid a c d = record {
   front = c.front ++ d.front;
   splits = c.splits ∙ ap (λ r. c.front ++ r) (both_left a (q a mid) d.front mid d.splits) ∙ sym (append_assoc c.front d.front (left (turned (pair a) (q a mid))));
   steady = λ t u y e.
-    let l : left (q a mid) ≡ t ∷ u = sym (turned_left (pair a) (q a mid)) ∙ e in
-    chained_got p q ((c.front ++ d.front) ++ t ∷ y) (d.front ++ t ∷ y) a (got_keeps p c.front mid a c.steady d.front u y t (d.splits ∙ ap (λ r. d.front ++ r) l))
-    ∙ (ap (turned (pair a)) (d.steady t u y l) ∙ turned_with (pair a) (q a mid) (t ∷ y));
+      let l : left (q a mid) ≡ t ∷ u = sym (turned_left (pair a) (q a mid)) ∙ e in
+      chained_got p q ((c.front ++ d.front) ++ t ∷ y) (d.front ++ t ∷ y) a (got_keeps p c.front mid a c.steady d.front u y t (d.splits ∙ ap (λ r. d.front ++ r) l))
+      ∙ (ap (turned (pair a)) (d.steady t u y l) ∙ turned_with (pair a) (q a mid) (t ∷ y));
   follows = got_follows z R W Q V ts mid c.front d.front a (q a mid) c.follows.0 c.follows.1 d.follows;
   grows = λ e. chained_got w v ts mid a (c.grows refl) ∙ ap (turned (pair a)) (d.grows (sym (turned_firm (pair a) (q a mid)) ∙ e));
 }

@@ -2,9 +2,8 @@
 -- where a part of any depth may stand at x, with y behind it.
 use Rattle.std.proofs.Common.{◌≡◌, Bool, true, false, if◌then◌else◌, List, [], ◌∷◌, ◌++◌, refl, sym}
 use Rattle.std.proofs.lemmas.Bool.{cond-true, cond-false}
-use Rattle.grammar_words.specs.declared.stop.Why.{Why}
 use Rattle.grammar_words.specs.declared.stop.Why.TheVariants.{Wrong, Deep, Spent}
-use Rattle.grammar_words.specs.Grammar.{Part, One, Nothing, starts}
+use Rattle.grammar_words.specs.Grammar.{Part, One, Nothing}
 use Rattle.grammar_words.specs.Reading.{Outcome, Got, Fault, Reader, one, nothing}
 
 -- what may stand behind a part: the end of the tokens, or such a token
@@ -134,4 +133,3 @@ nothing-laws s x a = record {
   wide = λ ts rest b h. h;
   sentence = ([], a, λ k e. (refl, refl));
 }
-

@@ -17,3 +17,6 @@ pub mod Fork
 pub mod Seen
 pub mod ReadyWords
 pub mod Trailing
+pub mod Turns
+pub mod Starts
+mod Example

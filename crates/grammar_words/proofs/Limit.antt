@@ -1,10 +1,10 @@
 -- Laws of a part behind the test of its first token, and of the level below the limit.
 use Rattle.std.proofs.Common.{◌≡◌, Bool, true, false, if◌then◌else◌, List, [], ◌∷◌, ◌++◌, refl, ap, ◌∙◌, sym}
 use Rattle.std.proofs.lemmas.Bool.{cond-true, cond-false}
-use Rattle.grammar_words.specs.declared.stop.Why.TheVariants.{Wrong, Deep, Spent}
+use Rattle.grammar_words.specs.declared.stop.Why.TheVariants.{Wrong, Deep}
 use Rattle.grammar_words.specs.Grammar.{Part, Never, At, starts}
-use Rattle.grammar_words.specs.Reading.{Outcome, Got, Fault, Reader, guard, deep, spent}
-use Rattle.grammar_words.proofs.Laws.{ends, left, with_left, is_firm, Agrees, Goes, Follows, Account, Laws}
+use Rattle.grammar_words.specs.Reading.{Fault, Reader, guard, deep, spent}
+use Rattle.grammar_words.proofs.Laws.{ends, Agrees, Goes, Account, Laws}
 use Rattle.grammar_words.proofs.Pick.{starts_same}
 
 pub guarded_true : {K A : Type 0} (test : K → Bool) (p : Reader K A) (ts : List K) → starts test ts ≡ true → guard test p ts ≡ p ts

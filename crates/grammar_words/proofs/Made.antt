@@ -1,9 +1,9 @@
 -- Laws of what is made of a part.
-use Rattle.std.proofs.Common.{◌≡◌, Bool, true, List, [], ◌∷◌, ◌++◌, refl, ap, ◌∙◌, sym}
+use Rattle.std.proofs.Common.{◌≡◌, Bool, List, [], ◌∷◌, ◌++◌, refl, ap, ◌∙◌, sym}
 use Rattle.grammar_words.specs.declared.stop.Why.TheVariants.{Wrong, Deep, Spent}
 use Rattle.grammar_words.specs.Grammar.{Part, Made}
 use Rattle.grammar_words.specs.Reading.{Outcome, Got, Fault, Reader, turned, made}
-use Rattle.grammar_words.proofs.Laws.{ends, left, with_left, is_firm, Agrees, Goes, Follows, Account, Laws}
+use Rattle.grammar_words.proofs.Laws.{left, with_left, is_firm, Agrees, Goes, Follows, Laws}
 
 pub turned_left : {K A B : Type 0} (f : A → B) (o : Outcome K A) → left (turned f o) ≡ left o
 turned_left f (Got a rest) = refl

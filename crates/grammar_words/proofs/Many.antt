@@ -1,9 +1,9 @@
 -- Laws of a part any number of times.
-use Rattle.std.proofs.Common.{◌≡◌, ◌⊎◌, inl, inr, ℕ, zero, suc, Bool, true, false, List, [], ◌∷◌, ◌++◌, refl, sym, subst}
+use Rattle.std.proofs.Common.{◌≡◌, inl, inr, ℕ, zero, suc, Bool, true, false, List, [], ◌∷◌, refl, sym, subst}
 use Rattle.grammar_words.specs.Grammar.{Part, Nothing, Then, Made, Either, Each, starts}
-use Rattle.grammar_words.specs.Reading.{Reader, spent, nothing, cons, made, joined, many}
+use Rattle.grammar_words.specs.Reading.{Reader, cons, many}
 use Rattle.grammar_words.proofs.Laws.{ends, Goes, Laws, nothing-laws}
-use Rattle.grammar_words.proofs.Spelled.{Within, Narrower, narrower, spelled, goes_on}
+use Rattle.grammar_words.proofs.Spelled.{Within, Narrower, spelled}
 use Rattle.grammar_words.proofs.Made.{made-laws}
 use Rattle.grammar_words.proofs.Join.{joined-laws}
 use Rattle.grammar_words.proofs.Pick.{pick-laws}
@@ -59,13 +59,13 @@ pub many-laws : {K A : Type 0} {s z test : K → Bool} {x : List K} {R W : Part 
     → Laws s x R W H p w → Repeats s z test W H → (n : ℕ) → Laws z x (Each R) (Each W) (λ y. Each (H y)) (many test p n) (many test w n)
 many-laws {K} {A} {s} {z} {test} {x} {R} {W} {H} {p} {w} l r zero =
     either_each {R = R} {W = W} {H = H} (pick-laws test (spent-laws (λ y. some_within R (H y) (l.loose y)) (some_within R W l.wide) (some_goes s z test W H r l.sentence)) (nothing-laws z x [])
-      (λ y ts rest as_ h e. some_starts test (H y) (r.holed y) ts rest as_ h)
-      (λ y ts rest as_ h e. none_starts z test r.stop [] ts rest as_ h e))
+    (λ y ts rest as_ h e. some_starts test (H y) (r.holed y) ts rest as_ h)
+    (λ y ts rest as_ h e. none_starts z test r.stop [] ts rest as_ h e))
 many-laws {K} {A} {s} {z} {test} {x} {R} {W} {H} {p} {w} l r (suc n) =
     either_each {R = R} {W = W} {H = H} (pick-laws test
-      (made-laws cons (joined-laws l (many-laws l r n)
-        (λ ts rest as_ h e. each_ends s z test W r.wide r.follow r.narrow ts rest as_ h e)
-        (λ y ts rest as_ h e. each_ends s z test (H y) (r.holed y) r.follow r.narrow ts rest as_ h e)))
-      (nothing-laws z x [])
-      (λ y ts rest as_ h e. some_starts test (H y) (r.holed y) ts rest as_ h)
-      (λ y ts rest as_ h e. none_starts z test r.stop [] ts rest as_ h e))
+    (made-laws cons (joined-laws l (many-laws l r n)
+    (λ ts rest as_ h e. each_ends s z test W r.wide r.follow r.narrow ts rest as_ h e)
+    (λ y ts rest as_ h e. each_ends s z test (H y) (r.holed y) r.follow r.narrow ts rest as_ h e)))
+    (nothing-laws z x [])
+    (λ y ts rest as_ h e. some_starts test (H y) (r.holed y) ts rest as_ h)
+    (λ y ts rest as_ h e. none_starts z test r.stop [] ts rest as_ h e))

@@ -1,10 +1,9 @@
 -- Laws of one part or another.
-use Rattle.std.proofs.Common.{◌≡◌, ◌⊎◌, inl, inr, Bool, true, false, if◌then◌else◌, List, [], ◌∷◌, ◌++◌, refl, ap, ◌∙◌, sym}
+use Rattle.std.proofs.Common.{◌≡◌, inl, inr, Bool, true, false, if◌then◌else◌, List, [], ◌∷◌, ◌++◌, refl, ap, ◌∙◌, sym}
 use Rattle.std.proofs.lemmas.Bool.{cond-true, cond-false}
-use Rattle.grammar_words.specs.declared.stop.Why.TheVariants.{Wrong, Deep, Spent}
 use Rattle.grammar_words.specs.Grammar.{Part, Either, starts}
-use Rattle.grammar_words.specs.Reading.{Outcome, Got, Fault, Reader, choose, pick}
-use Rattle.grammar_words.proofs.Laws.{ends, left, with_left, is_firm, Agrees, Goes, Follows, Account, Laws}
+use Rattle.grammar_words.specs.Reading.{Reader, choose, pick}
+use Rattle.grammar_words.proofs.Laws.{ends, left, Account, Laws}
 use Rattle.grammar_words.proofs.Spelled.{follows_on, goes_on}
 
 pub chosen_true : {K A : Type 0} (test : List K → Bool) (p q : Reader K A) (ts : List K) → test ts ≡ true → choose test p q ts ≡ p ts
@@ -57,8 +56,9 @@ unfolding choose
 choose-laws {K} {A} {s} {x} {R} {W} {Q} {V} {H} {G} {p} {w} {q} {v} test l k h on off = record {
   account = λ ts. choose_account s R W Q V p w q v test h l.account k.account ts (test ts) refl;
   again = λ y ts rest a c e. elim c [
-    inl r ↦ rw (chosen_true test p q ts (on y ts rest a r e)) (l.again y ts rest a r e)
-    | inr r ↦ rw (chosen_false test p q ts (off y ts rest a r e)) (k.again y ts rest a r e) ];
+    | inl r ↦ rw (chosen_true test p q ts (on y ts rest a r e)) (l.again y ts rest a r e)
+    | inr r ↦ rw (chosen_false test p q ts (off y ts rest a r e)) (k.again y ts rest a r e)
+  ];
   loose = λ y ts rest a c. elim c [ inl r ↦ inl (l.loose y ts rest a r) | inr r ↦ inr (k.loose y ts rest a r) ];
   wide = λ ts rest a c. elim c [ inl r ↦ inl (l.wide ts rest a r) | inr r ↦ inr (k.wide ts rest a r) ];
   sentence = goes_on s s W (Either W V) (λ e d. d) (λ us rest a d. inl d) [] l.sentence;

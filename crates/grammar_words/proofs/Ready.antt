@@ -1,18 +1,14 @@
 -- A part with its reading, ready to be joined with others: its laws, and its shape in classes of tokens.
-use Rattle.std.proofs.Common.{◌≡◌, ◌⊎◌, inl, inr, ℕ, ◌<◌, ◌≤◌, Bool, true, false, ◌&&◌, ◌||◌, not, if◌then◌else◌, List, [], ◌∷◌, ◌++◌, length, refl, ap, ◌∙◌, sym, subst, arith}
-use Rattle.std.proofs.lemmas.List.{append_assoc, append-nil}
-use Rattle.grammar_words.specs.declared.stop.Why.{Why}
+use Rattle.std.proofs.Common.{◌≡◌, ◌⊎◌, inl, inr, ℕ, Bool, true, false, ◌&&◌, ◌||◌, not, if◌then◌else◌, List, [], ◌∷◌, refl, sym}
 use Rattle.grammar_words.specs.declared.stop.Why.TheVariants.{Wrong, Deep, Spent}
-use Rattle.grammar_words.specs.Grammar.{Part, One, Nothing, Then, Made, Either, starts}
-use Rattle.grammar_words.specs.Reading.{Outcome, Got, Fault, Reader, pair, after, turned, one, nothing, joined, chained, made, choose, pick}
+use Rattle.grammar_words.specs.Grammar.{Part, One, Nothing, Made, starts}
+use Rattle.grammar_words.specs.Reading.{Outcome, Got, Fault, Reader, turned, one, nothing, made}
 use Rattle.grammar_words.specs.Classes.{has, inside, outside, Tok, tok}
-use Rattle.grammar_words.proofs.Laws.{any, ends, ends_any, left, is_spent, Goes, Account, Laws, one-laws, nothing-laws}
+use Rattle.grammar_words.proofs.Laws.{ends_any, is_spent, Goes, Laws, one-laws, nothing-laws}
 use Rattle.grammar_words.proofs.Whole.{Ample, Pins}
-use Rattle.grammar_words.proofs.Spelled.{Within, Narrower, narrower, goes_on}
+use Rattle.grammar_words.proofs.Spelled.{narrower, goes_on}
 use Rattle.grammar_words.proofs.Made.{made-laws}
-use Rattle.grammar_words.proofs.Join.{joined-laws}
-use Rattle.grammar_words.proofs.Pick.{pick-laws}
-use Rattle.grammar_words.proofs.Sets.{subset, apart, starts_left, starts_right, starts_subset, starts_apart, ends_apart, ends_left, ends_right, ends_subset, ends_not, ends_none}
+use Rattle.grammar_words.proofs.Sets.{subset, starts_subset, ends_subset}
 
 -- no token of `stops` may stand behind the part, one of `firsts` comes first unless it may be `empty`; a `flat` one is
 -- never too deep, and a `near` one has a text within the limit
@@ -149,11 +145,11 @@ wider-ready {K} {A} {c} {m} {g} {x} {R} {W} {H} {p} {w} h r e =
     let d = both_true _ _ b.1 in
     let f = both_true _ _ d.1 in
     record {
-  laws = narrower (ends_subset c g.stops h.stops a.0) r.laws;
-  ample = r.ample;
-  opens = wider_opens c g h W b.0 (most_true g.empty h.empty d.0) r.opens;
-  opens_holed = λ y. wider_opens c g h (H y) b.0 (most_true g.empty h.empty d.0) (r.opens_holed y);
-  flat = λ n. r.flat (most_true h.flat g.flat f.0 n);
-  near = λ n. goes_on (outside c g.stops) (outside c h.stops) R R (ends_subset c g.stops h.stops a.0) (λ ts rest v k. k) [] (r.near (most_true h.near g.near f.1 n));
-  pins = λ ts n. let q = r.pins ts n in (q.0, q.1, λ k l. q.2 k (ends_subset c g.stops h.stops a.0 k l));
-}
+      laws = narrower (ends_subset c g.stops h.stops a.0) r.laws;
+      ample = r.ample;
+      opens = wider_opens c g h W b.0 (most_true g.empty h.empty d.0) r.opens;
+      opens_holed = λ y. wider_opens c g h (H y) b.0 (most_true g.empty h.empty d.0) (r.opens_holed y);
+      flat = λ n. r.flat (most_true h.flat g.flat f.0 n);
+      near = λ n. goes_on (outside c g.stops) (outside c h.stops) R R (ends_subset c g.stops h.stops a.0) (λ ts rest v k. k) [] (r.near (most_true h.near g.near f.1 n));
+      pins = λ ts n. let q = r.pins ts n in (q.0, q.1, λ k l. q.2 k (ends_subset c g.stops h.stops a.0 k l));
+    }

@@ -1,15 +1,15 @@
 -- A part behind the test of its first token, the level below the limit, and the same part in other words.
-use Rattle.std.proofs.Common.{◌≡◌, ◌⊎◌, inl, inr, ℕ, ◌+◌, ◌≤◌, Bool, true, false, ◌&&◌, not, if◌then◌else◌, List, [], ◌∷◌, ◌++◌, refl, ap, ◌∙◌, sym, subst, arith}
-use Rattle.grammar_words.specs.declared.stop.Why.TheVariants.{Wrong, Deep, Spent}
+use Rattle.std.proofs.Common.{◌≡◌, inl, ℕ, ◌+◌, ◌≤◌, Bool, true, false, ◌&&◌, not, List, [], ◌++◌, refl, ◌∙◌, sym, subst, arith}
+use Rattle.grammar_words.specs.declared.stop.Why.TheVariants.{Wrong, Deep}
 use Rattle.grammar_words.specs.Grammar.{Part, Never, At, starts}
-use Rattle.grammar_words.specs.Reading.{Outcome, Got, Fault, Reader, guard, deep}
+use Rattle.grammar_words.specs.Reading.{Outcome, Fault, Reader, guard, deep}
 use Rattle.grammar_words.specs.Classes.{inside, outside}
-use Rattle.grammar_words.proofs.Laws.{ends, is_spent, Goes, Account, Laws}
-use Rattle.grammar_words.proofs.Whole.{Ample, Pins, Levels}
+use Rattle.grammar_words.proofs.Laws.{is_spent, Goes}
+use Rattle.grammar_words.proofs.Whole.{Ample, Levels}
 use Rattle.grammar_words.proofs.Spelled.{Within, spelled, goes_on}
 use Rattle.grammar_words.proofs.Limit.{AreFirsts, guard-laws, limit-laws, guarded_true, guarded_false}
 use Rattle.grammar_words.proofs.Sets.{subset}
-use Rattle.grammar_words.proofs.Ready.{Shape, Opens, NoDeep, Ready, both_true}
+use Rattle.grammar_words.proofs.Ready.{Shape, Opens, Ready, both_true}
 use Rattle.grammar_words.proofs.ReadyJoin.{first_starts}
 
 guard_ample : {K A : Type 0} (m : ℕ) (test : K → Bool) (p : Reader K A) → Ample m p → Ample m (guard test p)
@@ -31,14 +31,14 @@ pub guard-ready : {K A : Type 0} {c : K → ℕ} {m : ℕ} {g : Shape} {x : List
 guard-ready {K} {A} {c} {m} {g} {x} {R} {W} {H} {p} {w} b r e =
     let f = both_true _ _ e in
     record {
-  laws = guard-laws (inside c b) r.laws (λ y ts rest a h d. first_starts c b g (H y) f.0 f.1 (r.opens_holed y) ts rest a h);
-  ample = guard_ample m (inside c b) p r.ample;
-  opens = r.opens;
-  opens_holed = r.opens_holed;
-  flat = λ d ts us i. r.flat d ts us (guard_deep (inside c b) p ts us (starts (inside c b) ts) refl i).1;
-  near = r.near;
-  pins = λ ts d. r.pins ts (guard_deep (inside c b) p ts x (starts (inside c b) ts) refl d).1;
-}
+      laws = guard-laws (inside c b) r.laws (λ y ts rest a h d. first_starts c b g (H y) f.0 f.1 (r.opens_holed y) ts rest a h);
+      ample = guard_ample m (inside c b) p r.ample;
+      opens = r.opens;
+      opens_holed = r.opens_holed;
+      flat = λ d ts us i. r.flat d ts us (guard_deep (inside c b) p ts us (starts (inside c b) ts) refl i).1;
+      near = r.near;
+      pins = λ ts d. r.pins ts (guard_deep (inside c b) p ts x (starts (inside c b) ts) refl d).1;
+    }
 
 abbrev pub limit_shape : List ℕ → List ℕ → Shape
 limit_shape s b = record { stops = s; firsts = b; empty = false; flat = false; near = false }
@@ -54,9 +54,9 @@ limit-ready {K} {A} {c} {m} {x} {W} s b w h n o = record {
   flat = λ e. absurd cc;
   near = λ e. absurd cc;
   pins = λ ts d.
-    let i = guard_deep (inside c b) (deep {A = A}) ts x (starts (inside c b) ts) refl d in
-    let j : ts ≡ x = (let k : ◌≡◌ {A = Outcome K A} (Fault Deep ts) (Fault Deep x) = i.1 in cc) in
-    ([], n.1, λ k l. (subst (λ u. starts (inside c b) u ≡ true) j i.0, j, refl));
+      let i = guard_deep (inside c b) (deep {A = A}) ts x (starts (inside c b) ts) refl d in
+      let j : ts ≡ x = (let k : ◌≡◌ {A = Outcome K A} (Fault Deep ts) (Fault Deep x) = i.1 in cc) in
+      ([], n.1, λ k l. (subst (λ u. starts (inside c b) u ≡ true) j i.0, j, refl));
 }
 
 pub spelled-ready : {K A : Type 0} {c : K → ℕ} {m : ℕ} {g : Shape} {x : List K} {R W : Part K A} {H : List K → Part K A} {p w : Reader K A} (Q V : Part K A) (G : List K → Part K A)

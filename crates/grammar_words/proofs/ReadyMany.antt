@@ -1,18 +1,18 @@
 -- A part any number of times, as a part that is ready.
-use Rattle.std.proofs.Common.{◌≡◌, ◌⊎◌, inl, inr, ℕ, zero, suc, ◌<◌, ◌≤◌, ◌+◌, Bool, true, false, ◌&&◌, ◌||◌, not, if◌then◌else◌, List, [], ◌∷◌, ◌++◌, length, refl, ap, ◌∙◌, sym, subst, arith}
-use Rattle.std.proofs.lemmas.List.{append_assoc, length-append}
+use Rattle.std.proofs.Common.{◌≡◌, ◌⊎◌, inl, inr, ℕ, zero, suc, ◌<◌, ◌≤◌, ◌+◌, Bool, true, false, ◌&&◌, not, List, [], ◌∷◌, ◌++◌, length, refl, ap, ◌∙◌, sym, subst, arith}
+use Rattle.std.proofs.lemmas.List.{length-append}
 use Rattle.grammar_words.specs.declared.stop.Why.TheVariants.{Wrong, Deep, Spent}
-use Rattle.grammar_words.specs.Grammar.{Part, Nothing, Each, starts}
+use Rattle.grammar_words.specs.Grammar.{Part, Each, starts}
 use Rattle.grammar_words.specs.Reading.{Outcome, Got, Fault, Reader, pair, after, turned, made, joined, chained, pick, spent, nothing, cons, many}
-use Rattle.grammar_words.specs.Classes.{has, inside, outside}
-use Rattle.grammar_words.proofs.Laws.{any, ends, ends_any, left, is_spent, Goes, Account, Laws}
+use Rattle.grammar_words.specs.Classes.{inside, outside}
+use Rattle.grammar_words.proofs.Laws.{is_spent, Account, Laws}
 use Rattle.grammar_words.proofs.Whole.{Ample, Pins}
-use Rattle.grammar_words.proofs.Spelled.{Within, Narrower, narrower, goes_on, spelled}
+use Rattle.grammar_words.proofs.Spelled.{Narrower}
 use Rattle.grammar_words.proofs.Pick.{chosen_true, chosen_false}
-use Rattle.grammar_words.proofs.Many.{Some_of, Repeats, many-laws}
-use Rattle.grammar_words.proofs.Sets.{subset, apart, starts_subset, ends_apart, ends_left, ends_right, ends_not, ends_none}
+use Rattle.grammar_words.proofs.Many.{Repeats, many-laws}
+use Rattle.grammar_words.proofs.Sets.{subset, apart, ends_apart, ends_left, ends_right, ends_not}
 use Rattle.grammar_words.proofs.Ready.{Shape, Opens, NoDeep, Ready, both_true, made_spent, made_deep}
-use Rattle.grammar_words.proofs.ReadyJoin.{after_deep, taken, first_starts, left_short, after_spent}
+use Rattle.grammar_words.proofs.ReadyJoin.{after_deep, taken, first_starts}
 
 -- a part that has a first token takes one
 shorter_steps : {K A : Type 0} (c : K → ℕ) (g : Shape) (W : Part K A) → not g.empty ≡ true → Opens c g W → (ts mid f : List K) (a : A) → ts ≡ f ++ mid → ((k : List K) → W (f ++ k) a k) → length mid < length ts
@@ -38,12 +38,12 @@ many_repeats {K} {A} {c} {m} {g} {x} {R} {W} {H} {p} {w} b r e =
     let f = both_true _ _ e in
     let i = both_true _ _ f.1 in
     record {
-  wide = first_starts c b g W f.0 i.0 r.opens;
-  holed = λ y. first_starts c b g (H y) f.0 i.0 (r.opens_holed y);
-  follow = ends_apart c b g.stops i.1;
-  narrow = ends_right c b g.stops;
-  stop = λ ts d. ends_not c b ts (ends_left c b g.stops ts d);
-}
+      wide = first_starts c b g W f.0 i.0 r.opens;
+      holed = λ y. first_starts c b g (H y) f.0 i.0 (r.opens_holed y);
+      follow = ends_apart c b g.stops i.1;
+      narrow = ends_right c b g.stops;
+      stop = λ ts d. ends_not c b ts (ends_left c b g.stops ts d);
+    }
 
 turn_spent : {K A : Type 0} (test : K → Bool) (p : Reader K A) (r : Reader K (List A)) (ts : List K) (b : Bool) → starts test ts ≡ b → (b ≡ true → is_spent (joined p r ts) ≡ false) → is_spent (pick test (made cons (joined p r)) (nothing []) ts) ≡ false
 unfolding made
@@ -82,19 +82,20 @@ many_flat test p f (suc n) ts x e = elim (turn_deep test p (many test p n) ts x 
 many_pins : {K A : Type 0} (s z test : K → Bool) (x : List K) (R W : Part K A) (H : List K → Part K A) (p w : Reader K A) → Laws s x R W H p w → Narrower z s → Pins s x H p → (n : ℕ) → Pins z x (λ y. Each (H y)) (many test p n)
 many_pins s z test x R W H p w l i h zero ts e = absurd (no_turn_deep test ts x (starts test ts) refl e)
 many_pins {K} {A} s z test x R W H p w l i h (suc n) ts e = elim (turn_deep test p (many test p n) ts x (starts test ts) refl e) [
-    inl d ↦ let g = h ts d in (g.0, g.1 ∷ [], λ k m. (k, g.2 k (i k m), refl))
-    | inr d ↦ let g = many_pins s z test x R W H p w l i h n d.1 d.3 in (g.0, d.0 ∷ g.1, λ k m. (d.1, l.loose (g.0 ++ k) ts d.1 d.0 (taken l ts d.1 d.0 d.2), g.2 k m)) ]
+  | inl d ↦ let g = h ts d in (g.0, g.1 ∷ [], λ k m. (k, g.2 k (i k m), refl))
+  | inr d ↦ let g = many_pins s z test x R W H p w l i h n d.1 d.3 in (g.0, d.0 ∷ g.1, λ k m. (d.1, l.loose (g.0 ++ k) ts d.1 d.0 (taken l ts d.1 d.0 d.2), g.2 k m))
+]
 
 pub many-ready : {K A : Type 0} {c : K → ℕ} {m : ℕ} {g : Shape} {x : List K} {R W : Part K A} {H : List K → Part K A} {p w : Reader K A} (b : List ℕ)
     → Ready c m g x R W H p w → fits_many b g ≡ true → Ready c m (many_shape b g) x (Each R) (Each W) (λ y. Each (H y)) (many (inside c b) p m) (many (inside c b) w m)
 many-ready {K} {A} {c} {m} {g} {x} {R} {W} {H} {p} {w} b r e =
     let i = many_repeats b r e in
     record {
-  laws = many-laws r.laws i m;
-  ample = many_ample m (inside c b) p r.ample (shorter r (both_true _ _ e).0) m (omega arith);
-  opens = each_starts (inside c b) W i.wide;
-  opens_holed = λ y. each_starts (inside c b) (H y) (i.holed y);
-  flat = λ d. many_flat (inside c b) p (r.flat d) m;
-  near = λ d. ([], [], λ k n. refl);
-  pins = many_pins (outside c g.stops) (outside c (b ++ g.stops)) (inside c b) x R W H p w r.laws i.narrow r.pins m;
-}
+      laws = many-laws r.laws i m;
+      ample = many_ample m (inside c b) p r.ample (shorter r (both_true _ _ e).0) m (omega arith);
+      opens = each_starts (inside c b) W i.wide;
+      opens_holed = λ y. each_starts (inside c b) (H y) (i.holed y);
+      flat = λ d. many_flat (inside c b) p (r.flat d) m;
+      near = λ d. ([], [], λ k n. refl);
+      pins = many_pins (outside c g.stops) (outside c (b ++ g.stops)) (inside c b) x R W H p w r.laws i.narrow r.pins m;
+    }

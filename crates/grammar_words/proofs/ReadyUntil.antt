@@ -1,17 +1,17 @@
 -- Lines up to the last one, as a part that is ready.
-use Rattle.std.proofs.Common.{◌≡◌, ◌⊎◌, inl, inr, ℕ, zero, suc, ◌<◌, ◌≤◌, ◌+◌, Bool, true, false, ◌&&◌, not, if◌then◌else◌, List, [], ◌∷◌, ◌++◌, length, refl, ap, ◌∙◌, sym, subst, arith}
+use Rattle.std.proofs.Common.{◌≡◌, ◌⊎◌, inl, inr, ℕ, zero, suc, ◌<◌, ◌≤◌, Bool, true, false, ◌&&◌, not, List, [], ◌∷◌, ◌++◌, length, refl, ap, ◌∙◌, subst, arith}
 use Rattle.std.proofs.lemmas.List.{append_assoc}
 use Rattle.grammar_words.specs.declared.stop.Why.TheVariants.{Wrong, Deep, Spent}
 use Rattle.grammar_words.specs.Grammar.{Part, Next, More, Last, Until, starts}
-use Rattle.grammar_words.specs.Reading.{Outcome, Got, Fault, Reader, pair, after, turned, made, chained, spent, nothing, put, second, onward, until}
+use Rattle.grammar_words.specs.Reading.{Outcome, Got, Fault, Reader, pair, after, turned, made, chained, put, second, onward, until}
 use Rattle.grammar_words.specs.Classes.{inside, outside}
-use Rattle.grammar_words.proofs.Laws.{any, ends, ends_any, is_spent, Goes, Account, Laws}
+use Rattle.grammar_words.proofs.Laws.{any, ends, ends_any, is_spent, Laws}
 use Rattle.grammar_words.proofs.Whole.{Ample, Pins}
-use Rattle.grammar_words.proofs.Spelled.{Within, narrower}
+use Rattle.grammar_words.proofs.Spelled.{narrower}
 use Rattle.grammar_words.proofs.Until.{Lines, Closes, until-laws}
 use Rattle.grammar_words.proofs.Sets.{ends_none}
 use Rattle.grammar_words.proofs.Ready.{Shape, Opens, NoDeep, Ready, both_true, made_spent, made_deep}
-use Rattle.grammar_words.proofs.ReadyJoin.{after_deep, taken, left_short}
+use Rattle.grammar_words.proofs.ReadyJoin.{after_deep, taken}
 use Rattle.grammar_words.proofs.ReadyMany.{shorter}
 
 abbrev pub until_shape : Shape → Shape
@@ -60,8 +60,9 @@ until_deep : {K S T : Type 0} (p : Reader K (Next S T)) (n : ℕ) (ts x : List K
     → (p ts ≡ Fault Deep x) ⊎ ((s : S) × (mid : List K) × (p ts ≡ Got (More s) mid) × (until p n mid ≡ Fault Deep x))
 unfolding made chained
 until_deep p n ts x e = elim (after_deep (onward (until p n)) x (p ts) (made_deep second (chained p (onward (until p n)) ts) x e)) [
-    inl d ↦ inl d
-    | inr d ↦ let i = line_deep (until p n) x d.0 d.1 d.3 in inr (i.0, d.1, d.2 ∙ ap (λ a. Got a d.1) i.1, i.2) ]
+  | inl d ↦ inl d
+  | inr d ↦ let i = line_deep (until p n) x d.0 d.1 d.3 in inr (i.0, d.1, d.2 ∙ ap (λ a. Got a d.1) i.1, i.2)
+]
 
 until_flat : {K S T : Type 0} (p : Reader K (Next S T)) → NoDeep p → (n : ℕ) → NoDeep (until p n)
 until_flat p f zero ts x e = cc
@@ -76,8 +77,9 @@ close_deep H l t c ts more (Last u) h = (more, ([], u), h)
 until_pins : {K S T : Type 0} (x : List K) (R W : Part K (Next S T)) (H : List K → Part K (Next S T)) (p w : Reader K (Next S T)) → Laws any x R W H p w → Closes R → Pins any x H p → (n : ℕ) → Pins any x (λ y. Lines (H y)) (until p n)
 until_pins x R W H p w l c h zero ts e = absurd cc
 until_pins x R W H p w l c h (suc n) ts e = elim (until_deep p n ts x e) [
-    inl d ↦ let g = h ts d in let i = close_deep H c.0 c.1 (λ y k. l.loose y (c.0 ++ k) k (Last c.1) (c.2 k)) ts g.0 g.1 (λ k. g.2 k (ends_any k)) in (i.0, i.1, λ k m. i.2 k)
-    | inr d ↦ let g = until_pins x R W H p w l c h n d.1 d.3 in (g.0, (d.0 ∷ g.1.0, g.1.1), λ k m. (d.1, l.loose (g.0 ++ k) ts d.1 (More d.0) (taken l ts d.1 (More d.0) d.2), g.2 k m)) ]
+  | inl d ↦ let g = h ts d in let i = close_deep H c.0 c.1 (λ y k. l.loose y (c.0 ++ k) k (Last c.1) (c.2 k)) ts g.0 g.1 (λ k. g.2 k (ends_any k)) in (i.0, i.1, λ k m. i.2 k)
+  | inr d ↦ let g = until_pins x R W H p w l c h n d.1 d.3 in (g.0, (d.0 ∷ g.1.0, g.1.1), λ k m. (d.1, l.loose (g.0 ++ k) ts d.1 (More d.0) (taken l ts d.1 (More d.0) d.2), g.2 k m))
+]
 
 pub until-ready : {K S T : Type 0} {c : K → ℕ} {m : ℕ} {g : Shape} {x : List K} {R W : Part K (Next S T)} {H : List K → Part K (Next S T)} {p w : Reader K (Next S T)}
     → Ready c m g x R W H p w → Closes R → fits_until g ≡ true → Ready c m (until_shape g) x (Lines R) (Lines W) (λ y. Lines (H y)) (until p m) (until w m)
@@ -86,11 +88,11 @@ until-ready {K} {S} {T} {c} {m} {g} {x} {R} {W} {H} {p} {w} r n e =
     let l : Laws any x R W H p w = narrower (λ k d. none_ends c g.stops f.1 k) r.laws in
     let i : Pins any x H p = λ ts d. let j = r.pins ts d in (j.0, j.1, λ k o. j.2 k (none_ends c g.stops f.1 k)) in
     record {
-  laws = narrower (λ k d. ends_any k) (until-laws l (n.0, n.1, λ k. l.wide (n.0 ++ k) k (Last n.1) (n.2 k)) m);
-  ample = until_ample m p r.ample (shorter r f.0) m (omega arith);
-  opens = λ ts rest v h. until_opens c g W f.0 r.opens ts rest v.0 v.1 h;
-  opens_holed = λ y ts rest v h. until_opens c g (H y) f.0 (r.opens_holed y) ts rest v.0 v.1 h;
-  flat = λ d. until_flat p (r.flat d) m;
-  near = λ d. (n.0, ([], n.1), λ k o. n.2 k);
-  pins = λ ts d. let j = until_pins x R W H p w l n i m ts d in (j.0, j.1, λ k o. j.2 k (ends_any k));
-}
+      laws = narrower (λ k d. ends_any k) (until-laws l (n.0, n.1, λ k. l.wide (n.0 ++ k) k (Last n.1) (n.2 k)) m);
+      ample = until_ample m p r.ample (shorter r f.0) m (omega arith);
+      opens = λ ts rest v h. until_opens c g W f.0 r.opens ts rest v.0 v.1 h;
+      opens_holed = λ y ts rest v h. until_opens c g (H y) f.0 (r.opens_holed y) ts rest v.0 v.1 h;
+      flat = λ d. until_flat p (r.flat d) m;
+      near = λ d. (n.0, ([], n.1), λ k o. n.2 k);
+      pins = λ ts d. let j = until_pins x R W H p w l n i m ts d in (j.0, j.1, λ k o. j.2 k (ends_any k));
+    }

@@ -1,8 +1,8 @@
 -- Words that others make: a token before a part or behind it, a part that may be left out, parts with commas between.
-use Rattle.std.proofs.Common.{◌≡◌, ℕ, Bool, true, false, ◌&&◌, List, [], ◌∷◌, refl}
-use Rattle.grammar_words.specs.Grammar.{Part, Nothing, Then, Made, Either, Each}
-use Rattle.grammar_words.specs.Reading.{Reader, nothing, joined, made, pick, many}
-use Rattle.grammar_words.specs.Classes.{has, inside, Past, past, Ended, ended, Perhaps, perhaps, Listed, listed}
+use Rattle.std.proofs.Common.{◌≡◌, ℕ, Bool, true, ◌&&◌, List, [], ◌∷◌}
+use Rattle.grammar_words.specs.Grammar.{Part}
+use Rattle.grammar_words.specs.Reading.{Reader}
+use Rattle.grammar_words.specs.Classes.{has, Past, past, Ended, ended, Perhaps, perhaps, Listed, listed}
 use Rattle.grammar_words.proofs.Ready.{Shape, Ready, both_true, token_shape, nothing_shape, tok-ready, nothing-ready, made-ready}
 use Rattle.grammar_words.proofs.ReadyJoin.{then_shape, fits_then, then-ready, either_shape, fits_either, either-ready}
 use Rattle.grammar_words.proofs.ReadyMany.{many_shape, fits_many, many-ready}

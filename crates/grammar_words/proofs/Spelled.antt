@@ -3,7 +3,7 @@ use Rattle.std.proofs.Common.{◌≡◌, Bool, true, List, [], ◌∷◌, ◌++�
 use Rattle.grammar_words.specs.declared.stop.Why.TheVariants.{Wrong, Deep, Spent}
 use Rattle.grammar_words.specs.Grammar.{Part}
 use Rattle.grammar_words.specs.Reading.{Outcome, Got, Fault, Reader}
-use Rattle.grammar_words.proofs.Laws.{ends, Goes, Follows, Account, Laws}
+use Rattle.grammar_words.proofs.Laws.{ends, Goes, Follows, Laws}
 
 abbrev pub Within : {K A : Type 0} → Part K A → Part K A → Type 0
 Within {K} {A} R Q = (ts rest : List K) (a : A) → R ts a rest → Q ts a rest

@@ -1,14 +1,14 @@
 -- Parts with commas between them, and perhaps one behind them, as a part that is ready.
-use Rattle.std.proofs.Common.{◌≡◌, ◌⊎◌, inl, inr, ℕ, zero, suc, ◌<◌, ◌≤◌, Bool, true, false, ◌&&◌, List, [], ◌∷◌, ◌++◌, length, refl, ap, ◌∙◌, sym, subst, arith}
-use Rattle.grammar_words.specs.Grammar.{Part, Nothing, One, Then, Made, Either, Each}
-use Rattle.grammar_words.specs.Reading.{Outcome, Got, Fault, Reader, nothing, spent, turned, joined, chained, made, pick}
-use Rattle.grammar_words.specs.Classes.{has, inside, outside, Tok, tok, Past, past, Perhaps, Listed, Perhaps_token, Trailed, lead, trail, trailed}
-use Rattle.grammar_words.proofs.Laws.{ends, left, is_spent, Goes}
-use Rattle.grammar_words.proofs.Whole.{Ample, Pins}
+use Rattle.std.proofs.Common.{◌≡◌, inl, inr, ℕ, zero, suc, ◌≤◌, Bool, true, false, ◌&&◌, List, [], ◌∷◌, ◌++◌, refl, ap, ◌∙◌, sym, subst, arith}
+use Rattle.grammar_words.specs.Grammar.{Part, Nothing, Then, Made, Either, Each}
+use Rattle.grammar_words.specs.Reading.{Reader, nothing, spent, joined, chained, made, pick}
+use Rattle.grammar_words.specs.Classes.{has, inside, outside, Tok, tok, Past, past, Listed, Perhaps_token, Trailed, lead, trail, trailed}
+use Rattle.grammar_words.proofs.Laws.{Goes}
+use Rattle.grammar_words.proofs.Whole.{Ample}
 use Rattle.grammar_words.proofs.Spelled.{Within}
 use Rattle.grammar_words.proofs.Limit.{spent-laws}
 use Rattle.grammar_words.proofs.Many.{each_within}
-use Rattle.grammar_words.proofs.Ready.{Shape, Opens, NoDeep, Ready, both_true, token_shape, nothing_shape, tok-ready, nothing-ready, made-ready, made_spent, wider-ready, is_wider}
+use Rattle.grammar_words.proofs.Ready.{Shape, Opens, Ready, both_true, token_shape, nothing_shape, tok-ready, nothing-ready, made-ready, made_spent, wider-ready, is_wider}
 use Rattle.grammar_words.proofs.ReadyJoin.{then_shape, fits_then, then-ready, either_shape, fits_either, either-ready}
 use Rattle.grammar_words.proofs.ReadyMany.{one_turn, shorter}
 use Rattle.grammar_words.proofs.ReadyLimit.{spelled-ready}
@@ -100,7 +100,7 @@ no-turns : {K A : Type 0} {c : K → ℕ} {m : ℕ} {g : Shape} {x : List K} {R 
     → Ready c 0 (token_shape k) x (Past c k (Onward c k R)) (Past c k (Onward c k W)) (λ y. Past c k (Onward c k (H y))) spent spent
 no-turns {K} {A} {c} {m} {g} {x} {R} {W} {H} {p} {w} k t h r = record {
   laws = spent-laws (λ y. past_within c k (Onward c k R) (Onward c k (H y)) (onward_within c k R (H y) (r.laws.loose y)))
-    (past_within c k (Onward c k R) (Onward c k W) (onward_within c k R W r.laws.wide)) (end_goes c (outside c []) k W t h);
+      (past_within c k (Onward c k R) (Onward c k W) (onward_within c k R W r.laws.wide)) (end_goes c (outside c []) k W t h);
   ample = λ ts b. absurd (omega arith);
   opens = past_opens c k (Onward c k W);
   opens_holed = λ y. past_opens c k (Onward c k (H y));
@@ -120,7 +120,7 @@ zero_ready : {K A : Type 0} {c : K → ℕ} {m : ℕ} {g : Shape} {x : List K} {
     → Ready c 0 (trail_shape b k g) x (Trail c k R) (Trail c k W) (λ y. Trail c k (H y)) (trail c b k p 0) (trail c b k w 0)
 zero_ready {K} {A} {c} {m} {g} {x} {R} {W} {H} {p} {w} b k t h r e f =
     spelled-ready (Trail c k R) (Trail c k W) (λ y. Trail c k (H y)) (trail_on c k R) (trail_off c k R) (trail_on c k W) (trail_off c k W) (λ y. trail_on c k (H y)) (λ y. trail_off c k (H y))
-      (wider-ready (trail_shape b k g) (either-ready k (no-turns k t h r) (nothing-ready c 0 x ([], false)) e) f)
+    (wider-ready (trail_shape b k g) (either-ready k (no-turns k t h r) (nothing-ready c 0 x ([], false)) e) f)
 
 suc_ready : {K A : Type 0} {c : K → ℕ} {g : Shape} {x : List K} {R W : Part K A} {H : List K → Part K A} {p w : Reader K A} (b k : List ℕ) (t : K) → has k (c t) ≡ true
     → (n : ℕ) → Ready c n g x R W H p w → Ready c n (trail_shape b k g) x (Trail c k R) (Trail c k W) (λ y. Trail c k (H y)) (trail c b k p n) (trail c b k w n)
@@ -133,7 +133,7 @@ suc_ready {K} {A} {c} {g} {x} {R} {W} {H} {p} {w} b k t h n r i e f =
     let on = either-ready b (made-ready lead (then-ready r i d.0)) (nothing-ready c n x ([], true)) d.1 in
     let step = again-ample (suc n) (past-ready k t h on l.0) (step_ample n c k t h (pick (inside c b) (made lead (joined p (trail c b k p n))) (nothing ([], true))) on.ample) in
     spelled-ready (Trail c k R) (Trail c k W) (λ y. Trail c k (H y)) (trail_on c k R) (trail_off c k R) (trail_on c k W) (trail_off c k W) (λ y. trail_on c k (H y)) (λ y. trail_off c k (H y))
-      (wider-ready (trail_shape b k g) (either-ready k step (nothing-ready c (suc n) x ([], false)) o.0) o.1)
+    (wider-ready (trail_shape b k g) (either-ready k step (nothing-ready c (suc n) x ([], false)) o.0) o.1)
 
 trail-ready : {K A : Type 0} {c : K → ℕ} {m : ℕ} {g : Shape} {x : List K} {R W : Part K A} {H : List K → Part K A} {p w : Reader K A} (b k : List ℕ) (t : K) → has k (c t) ≡ true → Ready c m g x R W H p w → fits_trail b k g ≡ true
     → (n : ℕ) → n ≤ m → Ready c n (trail_shape b k g) x (Trail c k R) (Trail c k W) (λ y. Trail c k (H y)) (trail c b k p n) (trail c b k w n)
@@ -179,5 +179,5 @@ trailed-ready {K} {A} {c} {m} {g} {x} {R} {W} {H} {p} {w} b k t h r e =
     let d = both_true (fits_then g (trail_shape b k g)) (fits_either k (token_shape k) nothing_shape && fits_either b (then_shape g (trail_shape b k g)) (token_or_none k)) f.1 in
     let o = both_true (fits_either k (token_shape k) nothing_shape) (fits_either b (then_shape g (trail_shape b k g)) (token_or_none k)) d.1 in
     spelled-ready (Trailed c k R) (Trailed c k W) (λ y. Trailed c k (H y)) (trailed_on c k R) (trailed_off c k R) (trailed_on c k W) (trailed_off c k W) (λ y. trailed_on c k (H y)) (λ y. trailed_off c k (H y))
-      (either-ready b (made-ready lead (then-ready r (trail-ready b k t h r f.0 m (omega arith)) d.0))
-        (either-ready k (made-ready (λ u. ([], true)) (tok-ready c m k t h x)) (nothing-ready c m x ([], false)) o.0) o.1)
+    (either-ready b (made-ready lead (then-ready r (trail-ready b k t h r f.0 m (omega arith)) d.0))
+    (either-ready k (made-ready (λ u. ([], true)) (tok-ready c m k t h x)) (nothing-ready c m x ([], false)) o.0) o.1)

@@ -1,8 +1,8 @@
 -- Laws of lines up to the last one.
-use Rattle.std.proofs.Common.{◌≡◌, ◌⊎◌, inl, inr, ℕ, zero, suc, Bool, true, false, List, [], ◌∷◌, ◌++◌, refl, sym, subst}
+use Rattle.std.proofs.Common.{ℕ, zero, suc, List, [], ◌∷◌, ◌++◌, refl, sym, subst}
 use Rattle.grammar_words.specs.Grammar.{Part, Nothing, Chain, Made, Next, More, Last, Until}
-use Rattle.grammar_words.specs.Reading.{Reader, spent, nothing, put, second, onward, made, chained, until}
-use Rattle.grammar_words.proofs.Laws.{any, ends, ends_any, Goes, Laws, nothing-laws}
+use Rattle.grammar_words.specs.Reading.{Reader, put, second, onward, until}
+use Rattle.grammar_words.proofs.Laws.{any, ends_any, Laws, nothing-laws}
 use Rattle.grammar_words.proofs.Spelled.{Within, spelled}
 use Rattle.grammar_words.proofs.Made.{made-laws}
 use Rattle.grammar_words.proofs.Join.{chained-laws}
@@ -52,4 +52,4 @@ pub until-laws : {K S T : Type 0} {x : List K} {R W : Part K (Next S T)} {H : Li
 until-laws {K} {S} {T} {x} {R} {W} {H} l g zero = spent-laws (λ y ts rest v h. until_within R (H y) (l.loose y) ts rest v.0 v.1 h) (λ ts rest v h. until_within R W l.wide ts rest v.0 v.1 h) (g.0, ([], g.1), λ k e. g.2 k)
 until-laws {K} {S} {T} {x} {R} {W} {H} l g (suc n) =
     spelled (lines_on R) (lines_off R) (lines_on W) (λ y. lines_on (H y)) (λ y. lines_off (H y))
-      (made-laws second (chained-laws l (behind-laws R W H (until-laws l g n)) (λ a ts rest b h e. ends_any ts) (λ y a ts rest b h e. ends_any ts)))
+    (made-laws second (chained-laws l (behind-laws R W H (until-laws l g n)) (λ a ts rest b h e. ends_any ts) (λ y a ts rest b h e. ends_any ts)))

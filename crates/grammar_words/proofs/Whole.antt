@@ -1,12 +1,11 @@
 -- The answer to a whole text is right.
 use Rattle.std.proofs.Common.{◌≡◌, ℕ, ◌+◌, ◌<◌, ◌≤◌, Bool, true, false, List, [], ◌∷◌, ◌++◌, length, refl, ap, ◌∙◌, sym, subst, arith}
 use Rattle.std.proofs.lemmas.List.{append_assoc, append-nil}
-use Rattle.grammar_words.specs.declared.stop.Why.{Why}
 use Rattle.grammar_words.specs.declared.stop.Why.TheVariants.{Wrong, Deep, Spent}
 use Rattle.grammar_words.specs.Grammar.{Part}
 use Rattle.grammar_words.specs.Reading.{Outcome, Got, Fault, Reader}
-use Rattle.grammar_words.specs.Exact.{Begins, StopsAt, IsTooDeep, whole, IsRight}
-use Rattle.grammar_words.proofs.Laws.{ends, left, is_spent, is_firm, Agrees, Goes, Account, Laws}
+use Rattle.grammar_words.specs.Exact.{Begins, StopsAt, whole, IsRight}
+use Rattle.grammar_words.proofs.Laws.{ends, is_spent, is_firm, Agrees, Goes, Account, Laws}
 
 -- with more turns than tokens no loop is spent
 abbrev pub Ample : {K A : Type 0} → ℕ → Reader K A → Type 0
@@ -48,19 +47,30 @@ begins s R d f g = (d, g.0 ++ [], g.1, g.2 [] refl)
 right_steps : {K A : Type 0} {m : ℕ} {s : K → Bool} {R : ℕ → Part K A} {H : ℕ → List K → List K → Part K A} {p : ℕ → Reader K A} → Levels m s R H p
     → (n : ℕ) (ts : List K) → length ts < m → (o : Outcome K A) → p n ts ≡ o → Account s (R n) (R (n + 2)) (p n) (p (n + 2)) ts o → IsRight R H n ts (whole o)
 right_steps {K} {A} {m} {s} {R} {H} {p} l n ts b (Got a []) e c = (c.follows.0, refl, λ d v h. let g = deeper l n d ts v (Got a []) refl e h in sym g.0)
-right_steps {K} {A} {m} {s} {R} {H} {p} l n ts b (Got a (t ∷ r)) e c =
-    (c.front, c.splits, (n + 2, [], a, c.follows.1 []), got_stops l n c.front r t a (λ v. c.steady t r v refl),
-     λ x h. let g = subst (λ o. Agrees x o h.1 []) e ((l.laws x n (n + 2) (omega arith)).again h.0 ts [] h.1 h.2 refl) in absurd cc)
-right_steps {K} {A} {m} {s} {R} {H} {p} l n ts b (Fault Wrong r) e c =
-    (c.front, c.splits, begins s R (n + 2) c.front c.follows, wrong_stops l n ts c.front r c.splits e c.steady,
-     λ x h. subst (λ o. Agrees x o h.1 []) e ((l.laws x n (n + 2) (omega arith)).again h.0 ts [] h.1 h.2 refl))
+right_steps {K} {A} {m} {s} {R} {H} {p} l n ts b (Got a (t ∷ r)) e c = (
+  c.front,
+  c.splits,
+  (n + 2, [], a, c.follows.1 []),
+  got_stops l n c.front r t a (λ v. c.steady t r v refl),
+  λ x h. let g = subst (λ o. Agrees x o h.1 []) e ((l.laws x n (n + 2) (omega arith)).again h.0 ts [] h.1 h.2 refl) in absurd cc,
+)
+right_steps {K} {A} {m} {s} {R} {H} {p} l n ts b (Fault Wrong r) e c = (
+  c.front,
+  c.splits,
+  begins s R (n + 2) c.front c.follows,
+  wrong_stops l n ts c.front r c.splits e c.steady,
+  λ x h. subst (λ o. Agrees x o h.1 []) e ((l.laws x n (n + 2) (omega arith)).again h.0 ts [] h.1 h.2 refl),
+)
 right_steps {K} {A} {m} {s} {R} {H} {p} l n ts b (Fault Deep []) e c = c.follows
 right_steps {K} {A} {m} {s} {R} {H} {p} l n ts b (Fault Deep (t ∷ r)) e c =
     let on = l.laws [] n (n + 2) (omega arith) in
-    let g = l.pins n (t ∷ r) ts e in
-    (c.front, c.splits, begins s R (n + 2) (c.front ++ t ∷ []) c.follows,
-     λ more a h. let d = subst (λ o. Agrees [] o a []) (c.steady t r more refl) (on.again [] (c.front ++ t ∷ more) [] a (on.loose [] (c.front ++ t ∷ more) [] a h) refl) in absurd cc,
-     (g.0 ++ [], g.1, g.2 [] refl))
+    let g = l.pins n (t ∷ r) ts e in (
+      c.front,
+      c.splits,
+      begins s R (n + 2) (c.front ++ t ∷ []) c.follows,
+      λ more a h. let d = subst (λ o. Agrees [] o a []) (c.steady t r more refl) (on.again [] (c.front ++ t ∷ more) [] a (on.loose [] (c.front ++ t ∷ more) [] a h) refl) in absurd cc,
+      (g.0 ++ [], g.1, g.2 [] refl),
+    )
 right_steps {K} {A} {m} {s} {R} {H} {p} l n ts b (Fault Spent r) e c = let d = l.ample n ts b in absurd (let f = ap is_spent e in cc)
 
 pub right : {K A : Type 0} {m : ℕ} {s : K → Bool} {R : ℕ → Part K A} {H : ℕ → List K → List K → Part K A} {p : ℕ → Reader K A} → Levels m s R H p

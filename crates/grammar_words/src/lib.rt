@@ -4,4 +4,7 @@
 
 mod stop;
 
-pub use stop::{Stop, Why};
+pub use stop::{Stop, Why, expect_end, stop_before};
+
+#[cfg(test)]
+mod tests;

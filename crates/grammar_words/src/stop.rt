@@ -1,3 +1,6 @@
+ghost use Rattle.std.specs.Prelude.{◌≡◌, length};
+ghost use Rattle.grammar_words.specs.Coded.{stop_at, at_end};
+
 /// Why reading stops.
 #[derive(Clone, Copy, Debug, PartialEq, Eq)]
 pub enum Why {
@@ -14,4 +17,24 @@ pub enum Why {
 pub struct Stop {
     pub why: Why,
     pub left: usize,
+}
+
+/// The stop before these tokens.
+pub fn stop_before<T: Sized>(why: Why, rest: &[T]) -> Stop
+    ensures { result ≡ stop_at why (length rest.now) }
+{
+    Stop {
+        why,
+        left: rest.len(),
+    }
+}
+
+/// That nothing stands behind the whole.
+pub fn expect_end<T: Sized>(rest: &[T]) -> Result<(), Stop>
+    ensures { result ≡ at_end rest.now }
+{
+    if rest.is_empty() {
+        return Ok(());
+    }
+    Err(stop_before(Why::Wrong, rest))
 }
