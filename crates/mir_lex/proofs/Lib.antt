@@ -1,0 +1,6 @@
+pub mod LexSteps
+pub mod NumberLaws
+pub mod Numbers
+pub mod PlaceSteps
+pub mod Runs
+pub mod Skipping
