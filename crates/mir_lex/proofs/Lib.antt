@@ -4,3 +4,5 @@ pub mod Numbers
 pub mod PlaceSteps
 pub mod Runs
 pub mod Skipping
+pub mod TextLaws
+pub mod WordLaws
