@@ -2,6 +2,7 @@ pub mod LexSteps
 pub mod NumberLaws
 pub mod Numbers
 pub mod PlaceSteps
+pub mod QuotedLaws
 pub mod Runs
 pub mod Skipping
 pub mod TextLaws
