@@ -6,4 +6,5 @@ pub mod QuotedLaws
 pub mod Runs
 pub mod Skipping
 pub mod TextLaws
+pub mod TokenLaws
 pub mod WordLaws
