@@ -1,3 +1,4 @@
+pub mod FoundLaws
 pub mod LexSteps
 pub mod NumberLaws
 pub mod Numbers

@@ -154,24 +154,24 @@ pub token_sign : (a : ℕ) (rest : List ℕ) → is_word_start a ≡ false → i
 unfolding token_at
 token_sign a rest w d q p o = rw w (rw d (rw q (rw p (rw o refl))))
 
-word_found : (text rest : List ℕ) → is_word text ≡ true → length text ≤ 256 → first_is is_word_byte rest ≡ false → token_at (text ++ rest) ≡ token_of kind.Word (length text)
+pub word_found : (text rest : List ℕ) → is_word text ≡ true → length text ≤ 256 → first_is is_word_byte rest ≡ false → token_at (text ++ rest) ≡ token_of kind.Word (length text)
 word_found [] rest g l s = cc
 word_found (b ∷ text) rest g l s = token_word b (text ++ rest) (and_parts (is_word_start b) (list_all is_word_byte (b ∷ text)) g).0 ∙ word_again (b ∷ text) rest g l s
 
-number_found : (text rest digits suffix : List ℕ) → text ≡ digits ++ suffix → is_decimal digits ≡ true → IsToken kind.Number text → first_is is_word_byte rest ≡ false → token_at (text ++ rest) ≡ token_of kind.Number (length text)
+pub number_found : (text rest digits suffix : List ℕ) → text ≡ digits ++ suffix → is_decimal digits ≡ true → IsToken kind.Number text → first_is is_word_byte rest ≡ false → token_at (text ++ rest) ≡ token_of kind.Number (length text)
 number_found text rest [] suffix e d g s = cc
 number_found [] rest (c ∷ digits) suffix e d g s = cc
 number_found (b ∷ text) rest (c ∷ digits) suffix e d g s =
     let k : c ≡ b = cc in
     token_number b (text ++ rest) (subst (λ x. is_digit x ≡ true) k (and_parts (is_digit c) (list_all is_digit (c ∷ digits)) d).0) ∙ number_again (b ∷ text) rest g s
 
-text_found : (body rest : List ℕ) → is_text_body false body ≡ true → text_at ((body ++ 34 ∷ []) ++ rest) ≡ token_of kind.Text (length (34 ∷ (body ++ 34 ∷ [])))
+pub text_found : (body rest : List ℕ) → is_text_body false body ≡ true → text_at ((body ++ 34 ∷ []) ++ rest) ≡ token_of kind.Text (length (34 ∷ (body ++ 34 ∷ [])))
 unfolding text_at
 text_found body rest g =
     let n : length body + 2 ≡ length (34 ∷ (body ++ 34 ∷ [])) = omega (arith, length-append body (34 ∷ [])) in
     rw (append_assoc body (34 ∷ []) rest) (rw (body_again false body rest g) (ap (token_of kind.Text) n))
 
-character_found : (quoted : Quoted) (rest : List ℕ) → is_quoted quoted ≡ true → quote_at ((written quoted ++ 39 ∷ []) ++ rest) ≡ token_of kind.Character (length (39 ∷ (written quoted ++ 39 ∷ [])))
+pub character_found : (quoted : Quoted) (rest : List ℕ) → is_quoted quoted ≡ true → quote_at ((written quoted ++ 39 ∷ []) ++ rest) ≡ token_of kind.Character (length (39 ∷ (written quoted ++ 39 ∷ [])))
 unfolding quote_at
 character_found quoted rest g =
     let n : length (written quoted) + 2 ≡ length (39 ∷ (written quoted ++ 39 ∷ [])) = omega (arith, length-append (written quoted) (39 ∷ [])) in
@@ -179,6 +179,6 @@ character_found quoted rest g =
     subst (λ x. character_or (lifetime_at x) (quote_behind x (quoted_len x)) ≡ token_of kind.Character (length (39 ∷ (written quoted ++ 39 ∷ [])))) (sym j)
       (ap (character_or (lifetime_at (written quoted ++ 39 ∷ rest))) (character_again quoted rest g) ∙ ap (token_of kind.Character) n)
 
-segment_again_at : (body rest : List ℕ) (n : ℕ) → is_segment_body 1 body ≡ true → length body + 7 ≡ n → segment_at ((body ++ 62 ∷ []) ++ rest) ≡ token_of kind.ImplSegment n
+pub segment_again_at : (body rest : List ℕ) (n : ℕ) → is_segment_body 1 body ≡ true → length body + 7 ≡ n → segment_at ((body ++ 62 ∷ []) ++ rest) ≡ token_of kind.ImplSegment n
 unfolding segment_at
 segment_again_at body rest n g e = rw (append_assoc body (62 ∷ []) rest) (rw (segment_again 1 body rest g) (ap (token_of kind.ImplSegment) e))
