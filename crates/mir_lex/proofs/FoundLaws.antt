@@ -68,7 +68,7 @@ sign_no_quote a h = grind (arith, nat_tests)
 sign_no_apostrophe : (a : ℕ) → is_sign_byte a ≡ true → is_apostrophe a ≡ false
 sign_no_apostrophe a h = grind (arith, nat_tests)
 
-double_sign : (a b : ℕ) → is_double a b ≡ true → is_sign_byte a ≡ true
+pub double_sign : (a b : ℕ) → is_double a b ≡ true → is_sign_byte a ≡ true
 double_sign a b h = grind (arith, nat_tests)
 
 double_no_open : (a b : ℕ) → is_double a b ≡ true → (a == 60) ≡ false

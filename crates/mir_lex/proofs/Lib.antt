@@ -1,4 +1,6 @@
+pub mod FaultLaws
 pub mod FoundLaws
+pub mod LexLaws
 pub mod LexSteps
 pub mod NumberLaws
 pub mod Numbers
