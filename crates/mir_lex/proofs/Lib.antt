@@ -1,3 +1,5 @@
+pub mod Answering
+pub mod Bounds
 pub mod FaultLaws
 pub mod FoundLaws
 pub mod LexLaws
