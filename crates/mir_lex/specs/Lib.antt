@@ -1,0 +1,5 @@
+pub mod Bytes
+pub mod Coded
+pub mod Lexing
+pub mod Places
+pub mod Tokens

@@ -1,0 +1,19 @@
+//! The tokens of a text: each a slice of it, in order, or the earliest fault of a text that has none
+//! (`specs/Tokens.antt`).
+#![tactic(auto)]
+
+mod bytes;
+mod character;
+mod digits;
+mod fault;
+mod front;
+mod lexer;
+mod place_in_text;
+mod quoted;
+mod token;
+
+pub use fault::{FaultKind, LexFault};
+pub use lexer::{MAX_TEXT, tokens};
+pub use place_in_text::text_place;
+pub use token::{Token, TokenKind};
+
