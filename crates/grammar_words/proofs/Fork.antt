@@ -3,13 +3,13 @@
 use Rattle.std.proofs.Common.{◌≡◌, inl, inr, ℕ, suc, ◌≤◌, Bool, true, false, ◌&&◌, ◌||◌, not, List, [], ◌∷◌, ◌++◌, length, refl, ap, ◌∙◌, sym, subst, arith}
 use Rattle.grammar_words.specs.Grammar.{Part, Either, starts}
 use Rattle.grammar_words.specs.Reading.{Outcome, Got, Fault, Reader, pair, after, turned, made, joined, chained, choose, pick, guard}
-use Rattle.grammar_words.specs.Classes.{inside, outside, tok, bare}
+use Rattle.grammar_words.specs.Classes.{has, inside, outside, tok, bare}
 use Rattle.grammar_words.proofs.Laws.{ends, left}
 use Rattle.grammar_words.proofs.Spelled.{Narrower, narrower, goes_on}
 use Rattle.grammar_words.proofs.Made.{turned_left}
 use Rattle.grammar_words.proofs.Limit.{guarded_true}
 use Rattle.grammar_words.proofs.Pick.{IsSettled, choose-laws, chosen_true, chosen_false}
-use Rattle.grammar_words.proofs.Sets.{subset, apart, subset_has, apart_has, starts_left, starts_right, ends_left, ends_right}
+use Rattle.grammar_words.proofs.Sets.{has_append, subset, apart, subset_has, apart_has, starts_left, starts_right, ends_left, ends_right}
 use Rattle.grammar_words.proofs.Ready.{Shape, Opens, Ready, both_true}
 use Rattle.grammar_words.proofs.ReadyJoin.{choose_ample, choose_flat, choose_pins, or_near}
 
@@ -107,3 +107,15 @@ fork-ready {K} {A} {c} {m} {g} {h} {x} {R} {W} {Q} {V} {H} {G} {p} {w} {q} {v} b
       near = λ o. or_near z R Q g.near h.near o (λ a. goes_on (outside c g.stops) z R R slim (λ ts rest l s. s) [] (r.near a)) (λ a. goes_on (outside c h.stops) z Q Q thin (λ ts rest l s. s) [] (n.near a));
       pins = choose_pins z x H G (bare c b k d) p q (λ ts o. let a = r.pins ts o in (a.0, a.1, λ l s. a.2 l (slim l s))) (λ ts o. let a = n.pins ts o in (a.0, a.1, λ l s. a.2 l (thin l s)));
     }
+
+not_false : (u v : Bool) → (u || v) ≡ true → u ≡ false → v ≡ true
+not_false true v h e = absurd cc
+not_false false v h e = h
+
+pub moves-both : {K A : Type 0} (c : K → ℕ) (k l : List ℕ) (p : Reader K A) → Moves c k p → Moves c l p → Moves c (k ++ l) p
+unfolding inside
+moves-both c k l p f g t u e = go (has k (c t)) refl
+  where
+    go : (i : Bool) → has k (c t) ≡ i → length (left (p (t ∷ u))) ≤ length u
+    go true i = f t u i
+    go false i = g t u (not_false (has k (c t)) (has l (c t)) (sym (has_append k l (c t)) ∙ e) i)

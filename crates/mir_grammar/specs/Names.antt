@@ -1,0 +1,220 @@
+-- What types and paths mean, and their canonical texts: their tokens in a row, where `::` before `<` and lifetimes behind
+-- `&` and `+` are left out, with one blank behind `,` `;` `dyn` `mut` and `const` and on both sides of `as`.
+use Rattle.std.specs.Prelude.{ℕ, Bool, true, false, ◌&&◌, ◌||◌, nat_lt, if◌then◌else◌, List, [], ◌∷◌, ◌++◌, length, codes, Option, Some, None}
+use Rattle.std.specs.Str.{bytes_eq}
+use Rattle.mir_ir.specs.declared.types.Ty.{Ty}
+use Rattle.mir_ir.specs.declared.types.Ty.TheVariants as ty
+use Rattle.mir_ir.specs.Names.{int_of_name}
+use Rattle.mir_ir.specs.declared.types.IntTy.{IntTy}
+use Rattle.mir_grammar.specs.Lexemes.{Lexeme, number_value}
+
+-- a type or a path: the type that it is, its canonical text as it stands in a longer path, and whether some path in it is
+-- longer than 256 bytes
+pub record Named : Type 0 where
+  pub ty : Ty
+  pub text : List ℕ
+  pub is_long : Bool
+
+-- what stands in the angle brackets of a path
+pub data Argument : Type 0 where
+  TypeArgument : Named → Argument
+  OtherArgument : List ℕ → Argument
+
+-- what a path begins with: a word, or another text
+pub data Head : Type 0 where
+  HeadWord : List ℕ → Head
+  HeadText : List ℕ → Bool → Head
+
+-- how a path goes on: a word behind ::, arguments, or an impl segment behind ::
+pub data Step : Type 0 where
+  StepWord : List ℕ → Step
+  StepArguments : List Argument → Step
+  StepImpl : List ℕ → Step
+
+abbrev pub argument_text : Argument → List ℕ
+argument_text (TypeArgument n) = n.text
+argument_text (OtherArgument text) = text
+
+abbrev pub argument_is_long : Argument → Bool
+argument_is_long (TypeArgument n) = n.is_long
+argument_is_long (OtherArgument text) = false
+
+-- texts with a comma and a blank between each two
+abbrev pub comma_text : List (List ℕ) → List ℕ
+comma_text [] = []
+comma_text (t ∷ ts) = codes ", " ++ (t ++ comma_text ts)
+
+abbrev pub list_text : List (List ℕ) → List ℕ
+list_text [] = []
+list_text (t ∷ ts) = t ++ comma_text ts
+
+abbrev pub texts_of : {A : Type 0} → (A → List ℕ) → List A → List (List ℕ)
+texts_of f [] = []
+texts_of f (a ∷ as_) = f a ∷ texts_of f as_
+
+abbrev pub some_is : {A : Type 0} → (A → Bool) → List A → Bool
+some_is f [] = false
+some_is f (a ∷ as_) = f a || some_is f as_
+
+abbrev pub head_text : Head → List ℕ
+head_text (HeadWord w) = w
+head_text (HeadText text long) = text
+
+abbrev pub head_is_long : Head → Bool
+head_is_long (HeadWord w) = false
+head_is_long (HeadText text long) = long
+
+abbrev pub step_text : Step → List ℕ
+step_text (StepWord w) = codes "::" ++ w
+step_text (StepArguments arguments) = codes "<" ++ (list_text (texts_of argument_text arguments) ++ codes ">")
+step_text (StepImpl text) = codes "::" ++ text
+
+abbrev pub step_is_long : Step → Bool
+step_is_long (StepWord w) = false
+step_is_long (StepArguments arguments) = some_is argument_is_long arguments
+step_is_long (StepImpl text) = false
+
+abbrev pub steps_text : List Step → List ℕ
+steps_text [] = []
+steps_text (s ∷ steps) = step_text s ++ steps_text steps
+
+abbrev pub path_text : Head → List Step → List ℕ
+path_text head steps = head_text head ++ steps_text steps
+
+-- the one type in angle brackets
+abbrev pub only_type : List Argument → Option Ty
+only_type [] = None
+only_type (TypeArgument n ∷ []) = Some n.ty
+only_type (TypeArgument n ∷ b ∷ more) = None
+only_type (OtherArgument text ∷ more) = None
+
+abbrev pub only_arguments : List Step → Option Ty
+only_arguments [] = None
+only_arguments (StepWord w ∷ more) = None
+only_arguments (StepArguments arguments ∷ []) = only_type arguments
+only_arguments (StepArguments arguments ∷ s ∷ more) = None
+only_arguments (StepImpl text ∷ more) = None
+
+-- behind std: boxed, Box and one type
+abbrev pub boxed_behind : List Step → Option Ty
+boxed_behind [] = None
+boxed_behind (StepWord a ∷ []) = None
+boxed_behind (StepWord a ∷ StepWord b ∷ more) = if bytes_eq (codes "boxed") a && bytes_eq (codes "Box") b then only_arguments more else None
+boxed_behind (StepWord a ∷ StepArguments arguments ∷ more) = None
+boxed_behind (StepWord a ∷ StepImpl text ∷ more) = None
+boxed_behind (StepArguments arguments ∷ more) = None
+boxed_behind (StepImpl text ∷ more) = None
+
+-- the T of Box<T> and std::boxed::Box<T>
+abbrev pub boxed_type : Head → List Step → Option Ty
+boxed_type (HeadWord w) steps = if bytes_eq (codes "Box") w then only_arguments steps else (if bytes_eq (codes "std") w then boxed_behind steps else None)
+boxed_type (HeadText text long) steps = None
+
+abbrev pub box_or_name : Option Ty → List ℕ → Ty
+box_or_name None text = ty.Named text
+box_or_name (Some t) text = ty.BoxOf t
+
+abbrev pub is_over : List ℕ → Bool
+is_over text = nat_lt 256 (length text)
+
+unfoldable pub to_path : Head × List Step → Named
+to_path v = record {
+  ty = box_or_name (boxed_type v.0 v.1) (path_text v.0 v.1);
+  text = path_text v.0 v.1;
+  is_long = is_over (path_text v.0 v.1) || (head_is_long v.0 || some_is step_is_long v.1);
+}
+
+-- a path whose first word is this token
+unfoldable pub to_keyed_path : Lexeme × List Step → Named
+to_keyed_path v = to_path (HeadWord v.0.text, v.1)
+
+-- a path whose first word is mut
+unfoldable pub to_mut_path : List Step → Named
+to_mut_path steps = to_path (HeadWord (codes "mut"), steps)
+
+abbrev pub qualified_text : List ℕ → List ℕ → List ℕ
+qualified_text t p = codes "<" ++ (t ++ (codes " as " ++ (p ++ codes ">")))
+
+-- <T as P>
+unfoldable pub to_qualified : Named × Named → Named
+to_qualified v = record { ty = ty.Named (qualified_text v.0.text v.1.text); text = qualified_text v.0.text v.1.text; is_long = v.0.is_long || v.1.is_long }
+
+abbrev pub named_head : Named → Head
+named_head n = HeadText n.text n.is_long
+
+abbrev pub word_head : Lexeme → Head
+word_head l = HeadWord l.text
+
+abbrev pub impl_head : Lexeme → Head
+impl_head l = HeadText l.text false
+
+abbrev pub word_step : Lexeme → Step
+word_step l = StepWord l.text
+
+abbrev pub impl_step : Lexeme → Step
+impl_step l = StepImpl l.text
+
+abbrev pub written_argument : Lexeme → Argument
+written_argument l = OtherArgument l.text
+
+-- a word of the types, or !
+abbrev pub int_or_name : Option IntTy → List ℕ → Ty
+int_or_name (Some i) text = ty.Int i
+int_or_name None text = ty.Named text
+
+abbrev pub plain_type : List ℕ → Ty
+plain_type text = if bytes_eq (codes "bool") text then ty.Bool else (if bytes_eq (codes "char") text then ty.Char
+    else (if bytes_eq (codes "!") text then ty.Never else (if bytes_eq (codes "str") text then ty.Str else int_or_name (int_of_name text) text)))
+
+unfoldable pub to_plain : Lexeme → Named
+to_plain l = record { ty = plain_type l.text; text = l.text; is_long = false }
+
+abbrev pub types_of : List Named → List Ty
+types_of [] = []
+types_of (n ∷ ns) = n.ty ∷ types_of ns
+
+-- (T) is T, and (T,) is a tuple of one
+abbrev pub tuple_type : List Named → Bool → Ty
+tuple_type [] comma = ty.Tuple []
+tuple_type (n ∷ []) true = ty.Tuple (n.ty ∷ [])
+tuple_type (n ∷ []) false = n.ty
+tuple_type (n ∷ m ∷ more) comma = ty.Tuple (n.ty ∷ m.ty ∷ types_of more)
+
+abbrev pub comma_where : Bool → List ℕ
+comma_where true = codes ","
+comma_where false = []
+
+abbrev pub named_text : Named → List ℕ
+named_text n = n.text
+
+abbrev pub named_is_long : Named → Bool
+named_is_long n = n.is_long
+
+unfoldable pub to_tuple : List Named × Bool → Named
+to_tuple v = record {
+  ty = tuple_type v.0 v.1;
+  text = codes "(" ++ (list_text (texts_of named_text v.0) ++ (comma_where v.1 ++ codes ")"));
+  is_long = some_is named_is_long v.0;
+}
+
+-- [T; N], or [T]
+unfoldable pub to_array : Named × Option Lexeme → Named
+to_array (item, None) = record { ty = ty.Slice item.ty; text = codes "[" ++ (item.text ++ codes "]"); is_long = item.is_long }
+to_array (item, Some n) = record { ty = ty.Array item.ty (number_value n); text = codes "[" ++ (item.text ++ (codes "; " ++ (n.text ++ codes "]"))); is_long = item.is_long }
+
+abbrev pub mut_where : Bool → List ℕ
+mut_where true = codes "mut "
+mut_where false = []
+
+unfoldable pub to_ref : Bool × Named → Named
+to_ref v = record { ty = ty.Ref v.0 v.1.ty; text = codes "&" ++ (mut_where v.0 ++ v.1.text); is_long = v.1.is_long }
+
+abbrev pub pointer_word : Bool → List ℕ
+pointer_word true = codes "mut "
+pointer_word false = codes "const "
+
+unfoldable pub to_raw : Bool × Named → Named
+to_raw v = record { ty = ty.Raw v.0 v.1.ty; text = codes "*" ++ (pointer_word v.0 ++ v.1.text); is_long = v.1.is_long }
+
+unfoldable pub to_dyn : Named → Named
+to_dyn path = record { ty = ty.Dyn path.text; text = codes "dyn " ++ path.text; is_long = path.is_long }
