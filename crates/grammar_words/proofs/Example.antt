@@ -101,7 +101,7 @@ begins z e t h = elim (one_of 1 t (2 ∷ 5 ∷ []) h) [
   ]
 ]
 
-level_ready : (m : ℕ) (x : List ℕ) (d e : ℕ) → d + 2 ≤ e → Ready class_of m far x (Level Never d) (Level Never e) (λ y. Level (At (inside class_of firsts) x y) d) (level m d) (level m e)
+level_ready : (m : ℕ) (x : List ℕ) (d e : ℕ) → d + 4 ≤ e → Ready class_of m far x (Level Never d) (Level Never e) (λ y. Level (At (inside class_of firsts) x y) d) (level m d) (level m e)
 level_ready m x zero zero h = absurd (omega arith)
 level_ready m x zero (suc zero) h = absurd (omega arith)
 level_ready m x zero (suc (suc e)) h =

@@ -73,9 +73,9 @@ spelled-ready {K} {A} {c} {m} {g} {x} {R} {W} {H} {p} {w} Q V G on off wide clos
 
 -- parts that are ready at each limit, as the grammar and the reading of whole texts
 pub levels : {K A : Type 0} {c : K → ℕ} {m : ℕ} {g : Shape} {R : ℕ → Part K A} {H : ℕ → List K → List K → Part K A} {p : ℕ → Reader K A}
-    → ((x : List K) (d e : ℕ) → d + 2 ≤ e → Ready c m g x (R d) (R e) (H d x) (p d) (p e)) → Levels m (outside c g.stops) R H p
+    → ((x : List K) (d e : ℕ) → d + 4 ≤ e → Ready c m g x (R d) (R e) (H d x) (p d) (p e)) → Levels m (outside c g.stops) R H p
 levels {K} r = record {
   laws = λ x d e b. (r x d e b).laws;
-  ample = λ d. (r [] d (d + 2) (omega arith)).ample;
-  pins = λ d x. (r x d (d + 2) (omega arith)).pins;
+  ample = λ d. (r [] d (d + 4) (omega arith)).ample;
+  pins = λ d x. (r x d (d + 4) (omega arith)).pins;
 }

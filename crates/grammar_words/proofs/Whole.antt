@@ -17,7 +17,7 @@ Pins {K} {A} s x H p = (ts : List K) → p ts ≡ Fault Deep x → (more : List 
 
 -- a grammar and its reading at each limit, with m turns for each list
 pub record Levels {K A : Type 0} (m : ℕ) (s : K → Bool) (R : ℕ → Part K A) (H : ℕ → List K → List K → Part K A) (p : ℕ → Reader K A) : Type 0 where
-  pub laws : (x : List K) (d e : ℕ) → d + 2 ≤ e → Laws s x (R d) (R e) (H d x) (p d) (p e)
+  pub laws : (x : List K) (d e : ℕ) → d + 4 ≤ e → Laws s x (R d) (R e) (H d x) (p d) (p e)
   pub ample : (d : ℕ) → Ample m (p d)
   pub pins : (d : ℕ) (x : List K) → Pins s x (H d x) (p d)
 
@@ -25,9 +25,9 @@ pub record Levels {K A : Type 0} (m : ℕ) (s : K → Bool) (R : ℕ → Part K 
 deeper : {K A : Type 0} {m : ℕ} {s : K → Bool} {R : ℕ → Part K A} {H : ℕ → List K → List K → Part K A} {p : ℕ → Reader K A} → Levels m s R H p
     → (n d : ℕ) (ts : List K) (b : A) (o : Outcome K A) → is_firm o ≡ true → p n ts ≡ o → R d ts b [] → Agrees [] o b []
 deeper {K} {A} {m} {s} {R} {H} {p} l n d ts b o f e h =
-    let up = l.laws [] n (n + d + 2) (omega arith) in
-    let on = l.laws [] (n + d + 2) (n + d + 4) (omega arith) in
-    let wide = (l.laws [] d (n + d + 2) (omega arith)).wide ts [] b h in
+    let up = l.laws [] n (n + d + 4) (omega arith) in
+    let on = l.laws [] (n + d + 4) (n + d + 8) (omega arith) in
+    let wide = (l.laws [] d (n + d + 4) (omega arith)).wide ts [] b h in
     subst (λ q. Agrees [] q b []) ((up.account ts).grows (ap is_firm e ∙ f) ∙ e) (on.again [] ts [] b (on.loose [] ts [] b wide) refl)
 
 got_stops : {K A : Type 0} {m : ℕ} {s : K → Bool} {R : ℕ → Part K A} {H : ℕ → List K → List K → Part K A} {p : ℕ → Reader K A} → Levels m s R H p
@@ -45,29 +45,29 @@ begins : {K A : Type 0} (s : K → Bool) (R : ℕ → Part K A) (d : ℕ) (f : L
 begins s R d f g = (d, g.0 ++ [], g.1, g.2 [] refl)
 
 right_steps : {K A : Type 0} {m : ℕ} {s : K → Bool} {R : ℕ → Part K A} {H : ℕ → List K → List K → Part K A} {p : ℕ → Reader K A} → Levels m s R H p
-    → (n : ℕ) (ts : List K) → length ts < m → (o : Outcome K A) → p n ts ≡ o → Account s (R n) (R (n + 2)) (p n) (p (n + 2)) ts o → IsRight R H n ts (whole o)
+    → (n : ℕ) (ts : List K) → length ts < m → (o : Outcome K A) → p n ts ≡ o → Account s (R n) (R (n + 4)) (p n) (p (n + 4)) ts o → IsRight R H n ts (whole o)
 right_steps {K} {A} {m} {s} {R} {H} {p} l n ts b (Got a []) e c = (c.follows.0, refl, λ d v h. let g = deeper l n d ts v (Got a []) refl e h in sym g.0)
 right_steps {K} {A} {m} {s} {R} {H} {p} l n ts b (Got a (t ∷ r)) e c = (
   c.front,
   c.splits,
-  (n + 2, [], a, c.follows.1 []),
+  (n + 4, [], a, c.follows.1 []),
   got_stops l n c.front r t a (λ v. c.steady t r v refl),
-  λ x h. let g = subst (λ o. Agrees x o h.1 []) e ((l.laws x n (n + 2) (omega arith)).again h.0 ts [] h.1 h.2 refl) in absurd cc,
+  λ x h. let g = subst (λ o. Agrees x o h.1 []) e ((l.laws x n (n + 4) (omega arith)).again h.0 ts [] h.1 h.2 refl) in absurd cc,
 )
 right_steps {K} {A} {m} {s} {R} {H} {p} l n ts b (Fault Wrong r) e c = (
   c.front,
   c.splits,
-  begins s R (n + 2) c.front c.follows,
+  begins s R (n + 4) c.front c.follows,
   wrong_stops l n ts c.front r c.splits e c.steady,
-  λ x h. subst (λ o. Agrees x o h.1 []) e ((l.laws x n (n + 2) (omega arith)).again h.0 ts [] h.1 h.2 refl),
+  λ x h. subst (λ o. Agrees x o h.1 []) e ((l.laws x n (n + 4) (omega arith)).again h.0 ts [] h.1 h.2 refl),
 )
 right_steps {K} {A} {m} {s} {R} {H} {p} l n ts b (Fault Deep []) e c = c.follows
 right_steps {K} {A} {m} {s} {R} {H} {p} l n ts b (Fault Deep (t ∷ r)) e c =
-    let on = l.laws [] n (n + 2) (omega arith) in
+    let on = l.laws [] n (n + 4) (omega arith) in
     let g = l.pins n (t ∷ r) ts e in (
       c.front,
       c.splits,
-      begins s R (n + 2) (c.front ++ t ∷ []) c.follows,
+      begins s R (n + 4) (c.front ++ t ∷ []) c.follows,
       λ more a h. let d = subst (λ o. Agrees [] o a []) (c.steady t r more refl) (on.again [] (c.front ++ t ∷ more) [] a (on.loose [] (c.front ++ t ∷ more) [] a h) refl) in absurd cc,
       (g.0 ++ [], g.1, g.2 [] refl),
     )
@@ -75,4 +75,4 @@ right_steps {K} {A} {m} {s} {R} {H} {p} l n ts b (Fault Spent r) e c = let d = l
 
 pub right : {K A : Type 0} {m : ℕ} {s : K → Bool} {R : ℕ → Part K A} {H : ℕ → List K → List K → Part K A} {p : ℕ → Reader K A} → Levels m s R H p
     → (n : ℕ) (ts : List K) → length ts < m → IsRight R H n ts (whole (p n ts))
-right {K} {A} {m} {s} {R} {H} {p} l n ts b = right_steps l n ts b (p n ts) refl ((l.laws [] n (n + 2) (omega arith)).account ts)
+right {K} {A} {m} {s} {R} {H} {p} l n ts b = right_steps l n ts b (p n ts) refl ((l.laws [] n (n + 4) (omega arith)).account ts)

@@ -1,2 +1,4 @@
 pub mod Samples
 pub mod TypeReady
+pub mod TypeFirsts
+pub mod TypeLevels
