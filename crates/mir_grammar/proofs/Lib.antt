@@ -2,3 +2,4 @@ pub mod Samples
 pub mod TypeReady
 pub mod TypeFirsts
 pub mod TypeLevels
+pub mod PlaceReady

@@ -1,3 +1,4 @@
 pub mod Lexemes
 pub mod Names
 pub mod Types
+pub mod Places
