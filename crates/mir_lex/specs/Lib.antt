@@ -3,3 +3,4 @@ pub mod Coded
 pub mod Lexing
 pub mod Places
 pub mod Tokens
+pub mod Views

@@ -10,6 +10,7 @@ mod front;
 mod lexer;
 mod place_in_text;
 mod quoted;
+mod seen;
 mod token;
 
 pub use fault::{FaultKind, LexFault};
