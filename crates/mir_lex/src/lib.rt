@@ -2,6 +2,7 @@
 //! (`specs/Tokens.antt`).
 #![tactic(auto)]
 
+mod agreement;
 mod bytes;
 mod character;
 mod digits;
@@ -13,6 +14,7 @@ mod quoted;
 mod seen;
 mod token;
 
+pub use agreement::one_lexing;
 pub use fault::{FaultKind, LexFault};
 pub use lexer::{MAX_TEXT, tokens};
 pub use place_in_text::text_place;
