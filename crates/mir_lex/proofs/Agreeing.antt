@@ -1,5 +1,5 @@
 -- A text has one lexing.
-use Rattle.std.proofs.Common.{◌≡◌, ◌⊎◌, inl, inr, ℕ, ◌+◌, ◌-◌, ◌<◌, ◌≤◌, true, ◌&&◌, nat_le, if◌then◌else◌, List, [], ◌∷◌, ◌++◌, length, take, drop, Result, Ok, Err, refl, sym, ◌∙◌, ap, subst, arith, append_assoc, length-append}
+use Rattle.std.proofs.Common.{◌≡◌, ◌⊎◌, inl, inr, ℕ, ◌+◌, ◌-◌, ◌≤◌, true, nat_le, List, [], ◌∷◌, ◌++◌, length, take, drop, Ok, Err, refl, sym, ◌∙◌, ap, subst, arith, append_assoc, length-append}
 use Rattle.std.proofs.lemmas.Bool.{and_from, le-leb}
 use Rattle.std.proofs.lemmas.List.{take_at, drop_at}
 use Rattle.mir_lex.specs.declared.token.Token.{Token}
@@ -7,7 +7,7 @@ use Rattle.mir_lex.specs.declared.fault.FaultKind.{FaultKind}
 use Rattle.mir_lex.specs.declared.front.Fault.{Fault}
 use Rattle.mir_lex.specs.Tokens.{Separator, Blank, Comment, Separates, IsToken, LexesTo, Lexes, Fails}
 use Rattle.mir_lex.specs.Lexing.{Lexed, lexed}
-use Rattle.mir_lex.specs.Views.{slice_of, lexeme, AreSlices, AreInOrder}
+use Rattle.mir_lex.specs.Views.{slice_of, AreSlices, AreInOrder}
 use Rattle.mir_lex.specs.Agreement.{HasOneLexing}
 use Rattle.mir_lex.proofs.Runs.{same_ok, same_err}
 use Rattle.mir_lex.proofs.FoundLaws.{token_long}
@@ -36,9 +36,10 @@ placed_here : (source pre text behind : List ℕ) (here : ℕ) (t : Token) (ts :
     → Placed (length (pre ++ text)) source ts → Placed here source (t ∷ ts)
 placed_here source pre text behind here t ts e h g s n p =
     let long = token_long t.kind text g in
-    let last : length (pre ++ text) ≡ t.end = omega (arith, length-append pre text) in
-    ((subst (IsToken t.kind) (sym (slice_at source pre text behind t.start t.end e s n)) g, p.0),
-     (omega arith, omega arith, subst (λ k. AreInOrder k (length source) ts) last p.1))
+    let last : length (pre ++ text) ≡ t.end = omega (arith, length-append pre text) in (
+      (subst (IsToken t.kind) (sym (slice_at source pre text behind t.start t.end e s n)) g, p.0),
+      (omega arith, omega arith, subst (λ k. AreInOrder k (length source) ts) last p.1),
+    )
 
 placed : (ts : List Token) (source pre bytes rest : List ℕ) → source ≡ pre ++ bytes → LexesTo (length source) bytes ts rest → Placed (length pre) source ts
 placed [] source pre bytes rest e h = (tt, let s = ap length e in omega (arith, length-append pre bytes))
@@ -49,7 +50,7 @@ placed (t ∷ ts) source pre bytes rest e h =
     let mid = ap length h.5 in
     let start : t.start ≡ length (pre ++ g.0) = omega (arith, h.8, length-append (pre ++ g.0) (h.2 ++ h.3), length-append h.2 h.3) in
     placed_here source (pre ++ g.0) h.2 h.3 (length pre) t ts j (omega (arith, length-append pre g.0)) h.6 start h.9
-      (placed ts source ((pre ++ g.0) ++ h.2) h.3 rest (j ∙ sym (append_assoc (pre ++ g.0) h.2 h.3)) h.10)
+    (placed ts source ((pre ++ g.0) ++ h.2) h.3 rest (j ∙ sym (append_assoc (pre ++ g.0) h.2 h.3)) h.10)
 
 either_by : (text : List ℕ) (r : Lexed) → Answers (length text) text r → ((ts : List Token) × Lexes text ts) ⊎ ((k : FaultKind) × (n : ℕ) × Fails text k n)
 either_by text (Ok ts) h = inl (ts, h)

@@ -1,11 +1,11 @@
 -- What a token says: its kind and its bytes, and what these mean.
-use Rattle.std.specs.Prelude.{◌≡◌, ⊤, ℕ, ◌+◌, ◌-◌, ◌*◌, ◌^◌, ◌<◌, ◌≤◌, Bool, true, false, ◌&&◌, ◌||◌, not, ◌==◌, nat_le, if◌then◌else◌, List, [], ◌∷◌, length, take, drop, codes, Option, Some, None, is_none, option_map}
+use Rattle.std.specs.Prelude.{⊤, ℕ, ◌+◌, ◌-◌, ◌*◌, ◌^◌, ◌<◌, ◌≤◌, Bool, false, ◌&&◌, ◌||◌, not, ◌==◌, nat_le, if◌then◌else◌, List, [], ◌∷◌, length, take, drop, Option, Some, None, is_none}
 use Rattle.std.specs.List.{list_all, prefix_len}
 use Rattle.std.specs.Str.{bytes_eq}
 use Rattle.mir_lex.specs.declared.token.TokenKind.{TokenKind}
 use Rattle.mir_lex.specs.declared.token.TokenKind.TheVariants as kind
 use Rattle.mir_lex.specs.declared.token.Token.{Token}
-use Rattle.mir_lex.specs.Bytes.{is_digit, first_is, value_from, number_within}
+use Rattle.mir_lex.specs.Bytes.{is_digit, value_from, number_within}
 use Rattle.mir_lex.specs.Tokens.{IsToken}
 
 -- a token by its kind and its bytes as they are written

@@ -160,7 +160,9 @@ fn is_point(byte: u8) -> bool
 pub fn is_double(first: u8, second: u8) -> bool
     ensures { result ≡ is_double first second }
 {
-    (first == b'-' && second == b'>') || (first == b'=' && second == b'>') || (first == b':' && second == b':')
+    (first == b'-' && second == b'>')
+        || (first == b'=' && second == b'>')
+        || (first == b':' && second == b':')
 }
 
 /// The bytes behind the first `len`.

@@ -20,3 +20,5 @@ pub use lexer::{MAX_TEXT, tokens};
 pub use place_in_text::text_place;
 pub use token::{Token, TokenKind};
 
+#[cfg(test)]
+mod tests;

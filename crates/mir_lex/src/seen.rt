@@ -244,7 +244,9 @@ impl Token {
     pub fn is_name_word(&self, source: &[u8]) -> bool
         ensures { result ≡ is_name_word (lexeme source.now self.now) }
     {
-        self.is_kind(TokenKind::Word) && self.local(source).is_none() && self.label(source).is_none()
+        self.is_kind(TokenKind::Word)
+            && self.local(source).is_none()
+            && self.label(source).is_none()
     }
 
     /// A number without a suffix.

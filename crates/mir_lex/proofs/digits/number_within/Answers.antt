@@ -1,5 +1,4 @@
-use Rattle.std.proofs.Common.{◌≡◌, ◌<◌, ◌^◌, ◌∙◌, arith}
-use Rattle.mir_lex.specs.Bytes.{digit_value, number_within}
+use Rattle.std.proofs.Common.{◌∙◌}
 use Rattle.mir_lex.proofs.Numbers.{wide_product, wide_sum, small_enough, too_great_end}
 use Rattle.mir_lex.proofs.digits.number_within.Goals as goal
 

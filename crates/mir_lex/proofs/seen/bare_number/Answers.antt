@@ -1,4 +1,4 @@
-use Rattle.std.proofs.Common.{◌≡◌, sym, ◌∙◌, ap}
+use Rattle.std.proofs.Common.{sym, ◌∙◌, ap}
 use Rattle.mir_lex.specs.Bytes.{number_within}
 use Rattle.mir_lex.proofs.Numbers.{bare_past, bare_some}
 use Rattle.mir_lex.proofs.seen.bare_number.Goals as goal
