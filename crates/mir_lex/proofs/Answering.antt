@@ -1,10 +1,7 @@
 -- The answer for a text is right.
-use Rattle.std.proofs.Common.{◌≡◌, ℕ, List, length, Result, Ok, Err, refl, sym, ◌∙◌, ap, subst}
-use Rattle.mir_lex.specs.declared.token.Token.{Token}
+use Rattle.std.proofs.Common.{◌≡◌, ℕ, List, length, Ok, Err, refl, sym, subst}
 use Rattle.mir_lex.specs.declared.fault.FaultKind.{FaultKind}
 use Rattle.mir_lex.specs.declared.fault.FaultKind.TheVariants as fault
-use Rattle.mir_lex.specs.declared.fault.LexFault.{LexFault}
-use Rattle.mir_lex.specs.declared.front.Fault.{Fault}
 use Rattle.mir_lex.specs.Places.{text_place}
 use Rattle.mir_lex.specs.Tokens.{Fails, IsLexing}
 use Rattle.mir_lex.specs.Lexing.{Lexed, lexed}

@@ -1,11 +1,11 @@
 -- What is found at the front lies within the bytes.
-use Rattle.std.proofs.Common.{◌≡◌, ◌⊎◌, inl, inr, ℕ, ◌+◌, ◌<◌, ◌≤◌, List, [], ◌∷◌, ◌++◌, length, Result, Ok, Err, refl, sym, ◌∙◌, ap, subst, arith, length-append}
+use Rattle.std.proofs.Common.{◌≡◌, inl, inr, ℕ, ◌<◌, ◌≤◌, List, [], ◌∷◌, ◌++◌, length, Ok, Err, sym, ap, arith, length-append}
 use Rattle.mir_lex.specs.declared.fault.FaultKind.{FaultKind}
 use Rattle.mir_lex.specs.declared.fault.FaultKind.TheVariants as fault
 use Rattle.mir_lex.specs.declared.front.Found.{Found}
 use Rattle.mir_lex.specs.declared.front.Fault.{Fault}
 use Rattle.mir_lex.specs.Tokens.{IsFault}
-use Rattle.mir_lex.specs.Lexing.{token_at, failed}
+use Rattle.mir_lex.specs.Lexing.{token_at}
 use Rattle.mir_lex.proofs.Runs.{same_err}
 use Rattle.mir_lex.proofs.TokenLaws.{token_takes}
 use Rattle.mir_lex.proofs.FaultLaws.{fault_takes}

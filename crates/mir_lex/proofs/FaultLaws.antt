@@ -1,5 +1,5 @@
 -- The fault at the front of bytes is found exactly.
-use Rattle.std.proofs.Common.{◌≡◌, ◌⊎◌, inl, inr, ℕ, ◌+◌, ◌<◌, ◌≤◌, Bool, true, false, ◌==◌, not, ◌&&◌, ◌||◌, nat_le, if◌then◌else◌, List, [], ◌∷◌, ◌++◌, length, drop, codes, Option, Some, None, Result, Ok, Err, refl, sym, ◌∙◌, ap, subst, arith, append_assoc}
+use Rattle.std.proofs.Common.{◌≡◌, inl, inr, ℕ, ◌+◌, Bool, true, false, ◌==◌, ◌||◌, nat_le, if◌then◌else◌, List, [], ◌∷◌, ◌++◌, drop, codes, Option, Some, None, Err, refl, sym, ◌∙◌, ap, subst, arith, append_assoc}
 use Rattle.std.proofs.lemmas.Bool.{and_parts, and_left, or_from, or_parts, eqb-true, false_from_ne_true}
 use Rattle.std.proofs.lemmas.Bool.Decides.{nat_tests}
 use Rattle.std.specs.List.{prefix_len, list_all}
@@ -7,16 +7,15 @@ use Rattle.mir_lex.specs.declared.token.TokenKind.{TokenKind}
 use Rattle.mir_lex.specs.declared.token.TokenKind.TheVariants as kind
 use Rattle.mir_lex.specs.declared.fault.FaultKind.{FaultKind}
 use Rattle.mir_lex.specs.declared.fault.FaultKind.TheVariants as fault
-use Rattle.mir_lex.specs.declared.front.Found.{Found}
 use Rattle.mir_lex.specs.declared.front.Fault.{Fault}
 use Rattle.mir_lex.specs.Bytes.{is_blank, is_digit, is_word_start, is_word_byte, is_quote, is_apostrophe, is_sign_byte, is_double, first_is}
-use Rattle.mir_lex.specs.Tokens.{is_word, is_decimal, is_first, opens_impl, opens_segment, ends, Begins, BeginsLongWord, BeginsLongLifetime, BeginsWideNumber, GoesOn, OpensOnly, OpenQuote, OpenApostrophe, OpenSegment, IsFault}
+use Rattle.mir_lex.specs.Tokens.{is_word, is_decimal, is_first, opens_impl, opens_segment, Begins, BeginsLongWord, BeginsLongLifetime, OpensOnly, OpenQuote, OpenApostrophe, OpenSegment, IsFault}
 use Rattle.mir_lex.specs.Lexing.{Front, token_of, failed, closed, word_at, number_at, body_len, text_at, quoted_len, quote_behind, character_or, lifetime_at, quote_at, segment_len, segment_at, sign_at, token_at}
 use Rattle.mir_lex.proofs.Runs.{if_cases, same_err}
 use Rattle.mir_lex.proofs.NumberLaws.{IsAt, NumberFault, Wide, On, number_faults, goes_on_again, wide_again}
 use Rattle.mir_lex.proofs.WordLaws.{word_faults, long_word_again, LifetimeFault, NoLifetime, LongLifetime, lifetime_faults, long_lifetime_read}
 use Rattle.mir_lex.proofs.TextLaws.{closed_err}
-use Rattle.mir_lex.proofs.TokenLaws.{token_takes, token_word, token_number, token_text, token_quote, token_segment, token_sign, IsOpened, opened}
+use Rattle.mir_lex.proofs.TokenLaws.{token_takes, token_word, token_number, token_text, token_quote, token_segment, token_sign, opened}
 use Rattle.mir_lex.proofs.FoundLaws.{token_again, quote_lifetime, double_sign}
 
 -- no token begins where a fault is found
@@ -68,11 +67,13 @@ segment_fault b rest f o h t = open_fault (b ∷ rest) f (closed_err kind.ImplSe
 sign_fault : (a : ℕ) (rest : List ℕ) (f : Fault) → is_word_start a ≡ false → is_digit a ≡ false → is_quote a ≡ false → is_apostrophe a ≡ false → sign_at (a ∷ rest) ≡ Err f → IsFault f.kind f.skip (a ∷ rest)
 unfolding sign_at
 sign_fault a rest f w d q p h = elim (if_cases (first_is (is_double a) rest) _ _ _ h) [
-    inl r ↦ cc (r.1)
+  | inl r ↦ cc (r.1)
   | inr r ↦ elim (if_cases (is_sign_byte a) _ _ _ r.1) [
-      inl s ↦ cc (s.1)
+    | inl s ↦ cc (s.1)
     | inr s ↦ subst (λ (g : Fault). IsFault g.kind g.skip (a ∷ rest)) (same_err (record { kind = fault.BadByte; skip = 0 }) f s.1)
-        (inl (refl, a, rest, refl, or_from (is_word_start a) _ w (or_from (is_digit a) _ d (or_from (is_quote a) _ q (or_from (is_apostrophe a) (is_sign_byte a) p s.0))))) ] ]
+        (inl (refl, a, rest, refl, or_from (is_word_start a) _ w (or_from (is_digit a) _ d (or_from (is_quote a) _ q (or_from (is_apostrophe a) (is_sign_byte a) p s.0)))))
+  ]
+]
 
 number_fault : (bytes : List ℕ) (f : Fault) → NumberFault bytes f → IsFault f.kind f.skip bytes
 number_fault bytes f (Wide e w) = subst (λ (g : Fault). IsFault g.kind g.skip bytes) (sym e) (refl, w)
@@ -84,16 +85,21 @@ word_fault bytes f w = subst (λ (g : Fault). IsFault g.kind g.skip bytes) (sym 
 fault_by : (b : ℕ) (rest : List ℕ) (f : Fault) → token_at (b ∷ rest) ≡ Err f → token_at (b ∷ rest) ≡ Err f → IsFault f.kind f.skip (b ∷ rest)
 unfolding token_at
 fault_by b rest f t h = elim (if_cases (is_word_start b) _ _ _ h) [
-    inl p ↦ word_fault (b ∷ rest) f (word_faults b rest f p.0 p.1)
+  | inl p ↦ word_fault (b ∷ rest) f (word_faults b rest f p.0 p.1)
   | inr p ↦ elim (if_cases (is_digit b) _ _ _ p.1) [
-      inl q ↦ number_fault (b ∷ rest) f (number_faults b rest f q.0 q.1)
+    | inl q ↦ number_fault (b ∷ rest) f (number_faults b rest f q.0 q.1)
     | inr q ↦ elim (if_cases (is_quote b) _ _ _ q.1) [
-        inl r ↦ text_fault b rest f r.0 r.1 t
+      | inl r ↦ text_fault b rest f r.0 r.1 t
       | inr r ↦ elim (if_cases (is_apostrophe b) _ _ _ r.1) [
-          inl s ↦ quote_fault b rest f s.0 s.1 t
+        | inl s ↦ quote_fault b rest f s.0 s.1 t
         | inr s ↦ elim (if_cases (opens_segment (b ∷ rest)) _ _ _ s.1) [
-            inl u ↦ segment_fault b rest f u.0 u.1 t
-          | inr u ↦ sign_fault b rest f p.0 q.0 r.0 s.0 u.1 ] ] ] ] ]
+          | inl u ↦ segment_fault b rest f u.0 u.1 t
+          | inr u ↦ sign_fault b rest f p.0 q.0 r.0 s.0 u.1
+        ]
+      ]
+    ]
+  ]
+]
 
 pub fault_takes : (b : ℕ) (rest : List ℕ) (f : Fault) → token_at (b ∷ rest) ≡ Err f → IsFault f.kind f.skip (b ∷ rest)
 fault_takes b rest f h = fault_by b rest f h h
@@ -189,7 +195,7 @@ quote_character rest = token_quote rest
 apostrophe_open : (b : ℕ) (rest : List ℕ) → b ≡ 39 → (Begins kind.Character (b ∷ rest) → ⊥) → (Begins kind.Lifetime (b ∷ rest) → ⊥) → (BeginsLongLifetime (b ∷ rest) → ⊥) → token_at (b ∷ rest) ≡ failed fault.OpenText 0
 apostrophe_open b rest e =
     subst (λ x. (Begins kind.Character (x ∷ rest) → ⊥) → (Begins kind.Lifetime (x ∷ rest) → ⊥) → (BeginsLongLifetime (x ∷ rest) → ⊥) → token_at (x ∷ rest) ≡ failed fault.OpenText 0) (sym e)
-      (apostrophe_or rest (quote_behind rest (quoted_len rest)) (quote_character rest))
+    (apostrophe_or rest (quote_behind rest (quoted_len rest)) (quote_character rest))
 
 opens_again : (bytes : List ℕ) → OpensOnly bytes → token_at bytes ≡ failed fault.OpenText 0
 opens_again [] (OpenQuote q never) = cc

@@ -1,15 +1,15 @@
 -- Each token is found at the front of its bytes.
-use Rattle.std.proofs.Common.{◌≡◌, ℕ, ◌+◌, ◌<◌, ◌≤◌, Bool, true, false, ◌==◌, not, ◌&&◌, ◌||◌, nat_le, if◌then◌else◌, List, [], ◌∷◌, ◌++◌, length, codes, Option, Some, None, refl, sym, ◌∙◌, ap, subst, arith, append_assoc, length-append}
-use Rattle.std.proofs.lemmas.Bool.{and_parts, and_left, or_left, or_from, or_parts, eqb-true, not-true, le-leb}
+use Rattle.std.proofs.Common.{◌≡◌, ℕ, ◌+◌, ◌<◌, ◌≤◌, Bool, true, false, ◌==◌, not, ◌&&◌, ◌||◌, nat_le, List, [], ◌∷◌, ◌++◌, length, codes, Some, None, refl, sym, ◌∙◌, ap, subst, arith, append_assoc, length-append}
+use Rattle.std.proofs.lemmas.Bool.{and_parts, and_left, or_left, or_from, or_parts, not-true}
 use Rattle.std.proofs.lemmas.Bool.Decides.{nat_tests}
 use Rattle.std.specs.List.{list_all}
 use Rattle.mir_lex.specs.declared.token.TokenKind.{TokenKind}
 use Rattle.mir_lex.specs.declared.token.TokenKind.TheVariants as kind
-use Rattle.mir_lex.specs.Bytes.{is_blank, is_digit, is_word_start, is_word_byte, is_quote, is_apostrophe, is_separator, is_bracket, is_point, is_sign_byte, is_double, is_scalar, first_is}
-use Rattle.mir_lex.specs.Tokens.{is_word, is_decimal, written, is_sign, sign_ends, opens_impl, opens_segment, begins_separator, IsToken, ends, Begins}
-use Rattle.mir_lex.specs.Lexing.{Front, token_of, failed, scalar_len, quoted_len, quote_behind, character_or, lifetime_at, quote_at, sign_at, token_at}
+use Rattle.mir_lex.specs.Bytes.{is_digit, is_word_start, is_word_byte, is_quote, is_apostrophe, is_separator, is_sign_byte, is_double, first_is}
+use Rattle.mir_lex.specs.Tokens.{is_word, is_decimal, written, is_sign, sign_ends, opens_impl, opens_segment, begins_separator, IsToken, ends}
+use Rattle.mir_lex.specs.Lexing.{token_of, scalar_len, quoted_len, quote_behind, character_or, lifetime_at, quote_at, sign_at, token_at}
 use Rattle.mir_lex.proofs.WordLaws.{lifetime_again}
-use Rattle.mir_lex.proofs.TokenLaws.{token_word, token_number, token_text, token_quote, token_segment, token_sign, word_found, number_found, text_found, character_found, segment_again_at}
+use Rattle.mir_lex.proofs.TokenLaws.{token_text, token_quote, token_segment, token_sign, word_found, number_found, text_found, character_found, segment_again_at}
 
 -- a word behind a ' is no character, where no ' stands behind it
 ascii_start : (a : ℕ) → is_word_start a ≡ true → nat_le a 127 ≡ true

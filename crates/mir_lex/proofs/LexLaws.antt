@@ -1,13 +1,11 @@
 -- The tokens of a text, or its fault, are found exactly.
-use Rattle.std.proofs.Common.{◌≡◌, ◌⊎◌, inl, inr, ℕ, zero, suc, ◌+◌, ◌-◌, ◌<◌, ◌≤◌, true, false, ◌==◌, ◌&&◌, ◌||◌, not, Bool, if◌then◌else◌, List, [], ◌∷◌, ◌++◌, length, drop, Result, Ok, Err, refl, sym, ◌∙◌, ap, subst, arith, append_assoc, append-nil, length-append}
+use Rattle.std.proofs.Common.{◌≡◌, inl, inr, ℕ, zero, suc, ◌+◌, ◌-◌, ◌<◌, ◌≤◌, true, false, ◌==◌, ◌&&◌, not, Bool, if◌then◌else◌, List, [], ◌∷◌, ◌++◌, length, drop, Ok, Err, refl, sym, ◌∙◌, ap, subst, arith, append_assoc, append-nil, length-append}
 use Rattle.std.proofs.lemmas.Bool.{or_parts, or_from}
 use Rattle.std.proofs.lemmas.List.{drop_at}
 use Rattle.mir_lex.specs.declared.token.TokenKind.{TokenKind}
 use Rattle.mir_lex.specs.declared.token.Token.{Token}
 use Rattle.mir_lex.specs.declared.fault.FaultKind.{FaultKind}
 use Rattle.mir_lex.specs.declared.fault.FaultKind.TheVariants as fault
-use Rattle.mir_lex.specs.declared.front.Found.{Found}
-use Rattle.mir_lex.specs.declared.front.Fault.{Fault}
 use Rattle.mir_lex.specs.Bytes.{is_separator, first_is}
 use Rattle.mir_lex.specs.Tokens.{is_word, is_decimal, OpensOnly, OpenQuote, OpenApostrophe, OpenSegment, begins_separator, Separator, Blank, Comment, Separates, IsToken, ends, IsEnd, IsFault, LexesTo, Lexes, Fails}
 use Rattle.mir_lex.specs.Lexing.{skipped, Front, token_of, token_at, Lexed, before, with_front, lexed_here, lexed_from, lexed}
@@ -73,8 +71,8 @@ with_takes : (more : List ℕ → Lexed) (size : ℕ) (bytes : List ℕ) (b : �
 with_takes more size bytes b rest gap s k ih (Ok f) e =
     let i = token_takes b rest f e in
     put_before size bytes (b ∷ rest) i.text i.rest (record { kind = f.kind; start = size - length (b ∷ rest); end = size - length (b ∷ rest) + f.size }) gap s i.joins i.good i.stops refl
-      (ap (λ n. size - length (b ∷ rest) + n) (sym i.size)) (more (drop f.size (b ∷ rest)))
-      (subst (λ x. Answers size x (more (drop f.size (b ∷ rest)))) (drop_text (b ∷ rest) f.kind f.size i) (ih (drop f.size (b ∷ rest)) (rest_shorter (b ∷ rest) f.kind f.size i)))
+    (ap (λ n. size - length (b ∷ rest) + n) (sym i.size)) (more (drop f.size (b ∷ rest)))
+    (subst (λ x. Answers size x (more (drop f.size (b ∷ rest)))) (drop_text (b ∷ rest) f.kind f.size i) (ih (drop f.size (b ∷ rest)) (rest_shorter (b ∷ rest) f.kind f.size i)))
 with_takes more size bytes b rest gap s k ih (Err f) e = ([], bytes, b ∷ rest, gap, f.skip, refl, s, k, fault_takes b rest f e, refl)
 
 here_takes : (more : List ℕ → Lexed) (size : ℕ) (bytes mid : List ℕ) → Skips bytes mid → begins_separator mid ≡ false → ((xs : List ℕ) → length xs < length mid → Answers size xs (more xs)) → Answers size bytes (lexed_here more size mid)

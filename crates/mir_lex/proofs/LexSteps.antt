@@ -1,11 +1,10 @@
 -- A turn of the loop that finds tokens.
-use Rattle.std.proofs.Common.{◌≡◌, ℕ, suc, ◌+◌, ◌-◌, ◌<◌, ◌==◌, true, false, List, [], ◌∷◌, ◌++◌, length, drop, Result, Ok, Err, refl, sym, ◌∙◌, ap, arith, append_assoc, append-nil}
+use Rattle.std.proofs.Common.{◌≡◌, ℕ, suc, ◌+◌, ◌-◌, ◌<◌, ◌==◌, true, false, List, [], ◌∷◌, ◌++◌, length, drop, Ok, Err, refl, sym, ◌∙◌, ap, arith, append_assoc, append-nil}
 use Rattle.std.proofs.lemmas.Bool.{eqb-true}
-use Rattle.mir_lex.specs.declared.token.TokenKind.{TokenKind}
 use Rattle.mir_lex.specs.declared.token.Token.{Token}
 use Rattle.mir_lex.specs.declared.front.Found.{Found}
 use Rattle.mir_lex.specs.declared.front.Fault.{Fault}
-use Rattle.mir_lex.specs.Lexing.{Lexed, Front, skipped, token_at, before, with_front, lexed_here, lexed_from}
+use Rattle.mir_lex.specs.Lexing.{Lexed, skipped, token_at, before, with_front, lexed_here, lexed_from}
 
 -- tokens before those that are found
 abbrev pub with_before : List Token → Lexed → Lexed

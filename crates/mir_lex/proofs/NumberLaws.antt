@@ -1,6 +1,6 @@
 -- Numbers are found exactly.
-use Rattle.std.proofs.Common.{◌≡◌, ◌⊎◌, inl, inr, ℕ, ◌+◌, ◌-◌, ◌^◌, ◌<◌, ◌≤◌, Bool, true, false, ◌==◌, ◌||◌, ◌&&◌, List, [], ◌∷◌, ◌++◌, length, take, drop, codes, nat_le, Option, Some, None, Result, Ok, Err, unwrap_or, refl, sym, ◌∙◌, ap, subst, arith, append_assoc, append-nil, length-append}
-use Rattle.std.proofs.lemmas.Bool.{and_parts, and_from, or_cases, or_left, or_right, or_parts, eqb-true, leb-true, leb-false, le-leb, lt-leb, not-true, not_from_false}
+use Rattle.std.proofs.Common.{◌≡◌, inl, inr, ℕ, ◌+◌, ◌-◌, ◌^◌, ◌<◌, ◌≤◌, Bool, true, false, ◌==◌, ◌||◌, List, [], ◌∷◌, ◌++◌, length, take, drop, codes, nat_le, Option, Some, None, Ok, Err, unwrap_or, refl, sym, ◌∙◌, ap, subst, arith, append_assoc, append-nil, length-append}
+use Rattle.std.proofs.lemmas.Bool.{and_parts, and_from, or_cases, or_parts, eqb-true, leb-true, leb-false, le-leb, lt-leb, not_from_false}
 use Rattle.std.proofs.lemmas.Bool.Decides.{nat_tests}
 use Rattle.std.proofs.lemmas.List.{take_at, drop_at}
 use Rattle.std.specs.List.{prefix_len, list_all}
@@ -12,8 +12,8 @@ use Rattle.mir_lex.specs.declared.front.Found.{Found}
 use Rattle.mir_lex.specs.declared.front.Fault.{Fault}
 use Rattle.mir_lex.specs.Bytes.{is_digit, is_word_byte, is_word_start, is_width, is_integer_name, first_is, starts, value_from, number_within}
 use Rattle.mir_lex.specs.Tokens.{is_decimal, is_suffix, IsToken, ends, BeginsWideNumber, GoesOn}
-use Rattle.mir_lex.specs.Lexing.{Front, token_of, failed, more, width_len, name_len, suffix_len, number_of, digits_of, number_at}
-use Rattle.mir_lex.proofs.Runs.{if_cases, same_ok, same_err, same_some, Run, run, run_on, run_none, run_first}
+use Rattle.mir_lex.specs.Lexing.{token_of, failed, more, width_len, name_len, suffix_len, number_of, digits_of, number_at}
+use Rattle.mir_lex.proofs.Runs.{if_cases, same_ok, same_err, same_some, run, run_on, run_none}
 
 cons_same : (b c : ℕ) (xs ys : List ℕ) → b ≡ c → xs ≡ ys → b ∷ xs ≡ c ∷ ys
 cons_same b c xs ys h e = cc
@@ -39,18 +39,24 @@ width_as w bytes g h = let s = starts_takes w bytes h in record { front = w; beh
 
 width_takes : (bytes : List ℕ) (n : ℕ) → width_len bytes ≡ Some n → Front_of is_width bytes n
 width_takes bytes n h = elim (if_cases (starts (codes "8") bytes) _ _ _ h) [
-      inl p ↦ subst (Front_of is_width bytes) (same_some 1 n p.1) (width_as (codes "8") bytes refl p.0)
-    | inr p ↦ elim (if_cases (starts (codes "16") bytes || (starts (codes "32") bytes || starts (codes "64") bytes)) _ _ _ p.1) [
-    inl q ↦ subst (Front_of is_width bytes) (same_some 2 n q.1) (elim (or_cases (starts (codes "16") bytes) (starts (codes "32") bytes || starts (codes "64") bytes) q.0) [
-      inl r ↦ width_as (codes "16") bytes refl r
-    | inr r ↦ elim (or_cases (starts (codes "32") bytes) (starts (codes "64") bytes) r) [
-        inl s ↦ width_as (codes "32") bytes refl s
-      | inr s ↦ width_as (codes "64") bytes refl s ] ])
-  | inr q ↦ elim (if_cases (starts (codes "128") bytes) _ _ _ q.1) [
-      inl r ↦ subst (Front_of is_width bytes) (same_some 3 n r.1) (width_as (codes "128") bytes refl r.0)
-    | inr r ↦ elim (if_cases (starts (codes "size") bytes) _ _ _ r.1) [
-        inl s ↦ subst (Front_of is_width bytes) (same_some 4 n s.1) (width_as (codes "size") bytes refl s.0)
-      | inr s ↦ cc (s.1) ] ] ] ]
+  | inl p ↦ subst (Front_of is_width bytes) (same_some 1 n p.1) (width_as (codes "8") bytes refl p.0)
+  | inr p ↦ elim (if_cases (starts (codes "16") bytes || (starts (codes "32") bytes || starts (codes "64") bytes)) _ _ _ p.1) [
+    | inl q ↦ subst (Front_of is_width bytes) (same_some 2 n q.1) (elim (or_cases (starts (codes "16") bytes) (starts (codes "32") bytes || starts (codes "64") bytes) q.0) [
+      | inl r ↦ width_as (codes "16") bytes refl r
+      | inr r ↦ elim (or_cases (starts (codes "32") bytes) (starts (codes "64") bytes) r) [
+        | inl s ↦ width_as (codes "32") bytes refl s
+        | inr s ↦ width_as (codes "64") bytes refl s
+      ]
+    ])
+    | inr q ↦ elim (if_cases (starts (codes "128") bytes) _ _ _ q.1) [
+      | inl r ↦ subst (Front_of is_width bytes) (same_some 3 n r.1) (width_as (codes "128") bytes refl r.0)
+      | inr r ↦ elim (if_cases (starts (codes "size") bytes) _ _ _ r.1) [
+        | inl s ↦ subst (Front_of is_width bytes) (same_some 4 n s.1) (width_as (codes "size") bytes refl s.0)
+        | inr s ↦ cc (s.1)
+      ]
+    ]
+  ]
+]
 
 pub more_some : (o : Option ℕ) (n : ℕ) → more o ≡ Some n → (m : ℕ) × (o ≡ Some m) × (m + 1 ≡ n)
 more_some None n h = cc
@@ -59,17 +65,19 @@ more_some (Some m) n h = (m, refl, same_some (m + 1) n h)
 name_takes : (bytes : List ℕ) (n : ℕ) → name_len bytes ≡ Some n → Front_of is_integer_name bytes n
 name_takes [] n h = cc
 name_takes (a ∷ rest) n h = elim (if_cases ((a == 105) || (a == 117)) _ _ _ h) [
-      inl p ↦ let m = more_some (width_len rest) n p.1 in let w = width_takes rest m.0 m.1 in
-          record { front = a ∷ w.front; behind = w.behind; joins = ap (λ r. a ∷ r) w.joins; good = and_from ((a == 105) || (a == 117)) (is_width w.front) p.0 w.good; size = let e = w.size in let f = m.2 in omega arith }
-    | inr p ↦ cc (p.1) ]
+  | inl p ↦ let m = more_some (width_len rest) n p.1 in let w = width_takes rest m.0 m.1 in
+      record { front = a ∷ w.front; behind = w.behind; joins = ap (λ r. a ∷ r) w.joins; good = and_from ((a == 105) || (a == 117)) (is_width w.front) p.0 w.good; size = let e = w.size in let f = m.2 in omega arith }
+  | inr p ↦ cc (p.1)
+]
 
 suffix_some : (bytes : List ℕ) (n : ℕ) → suffix_len bytes ≡ Some n → Front_of is_suffix bytes n
 unfolding suffix_len
 suffix_some [] n h = cc
 suffix_some (a ∷ rest) n h = elim (if_cases (a == 95) _ _ _ h) [
-      inl p ↦ let m = more_some (name_len rest) n p.1 in let w = name_takes rest m.0 m.1 in
-          record { front = a ∷ w.front; behind = w.behind; joins = ap (λ r. a ∷ r) w.joins; good = and_from (a == 95) (is_integer_name w.front) p.0 w.good; size = let e = w.size in let f = m.2 in omega arith }
-    | inr p ↦ cc (p.1) ]
+  | inl p ↦ let m = more_some (name_len rest) n p.1 in let w = name_takes rest m.0 m.1 in
+      record { front = a ∷ w.front; behind = w.behind; joins = ap (λ r. a ∷ r) w.joins; good = and_from (a == 95) (is_integer_name w.front) p.0 w.good; size = let e = w.size in let f = m.2 in omega arith }
+  | inr p ↦ cc (p.1)
+]
 
 suffix_at : (bytes : List ℕ) (o : Option ℕ) → suffix_len bytes ≡ o → Front_of is_suffix bytes (unwrap_or o 0)
 suffix_at bytes None h = record { front = []; behind = bytes; joins = refl; good = refl; size = refl }
@@ -86,16 +94,21 @@ same_bytes (x ∷ xs) (y ∷ ys) h = let s = and_parts (x == y) (bytes_eq xs ys)
 
 width_again : (w behind : List ℕ) → is_width w ≡ true → width_len (w ++ behind) ≡ Some (length w)
 width_again w behind g = elim (or_cases (bytes_eq w (codes "8")) _ g) [
-      inl e ↦ rw (same_bytes w (codes "8") e) refl
-    | inr g ↦ elim (or_cases (bytes_eq w (codes "16")) _ g) [
-    inl e ↦ rw (same_bytes w (codes "16") e) refl
-  | inr g ↦ elim (or_cases (bytes_eq w (codes "32")) _ g) [
-      inl e ↦ rw (same_bytes w (codes "32") e) refl
-    | inr g ↦ elim (or_cases (bytes_eq w (codes "64")) _ g) [
-        inl e ↦ rw (same_bytes w (codes "64") e) refl
-      | inr g ↦ elim (or_cases (bytes_eq w (codes "128")) _ g) [
-          inl e ↦ rw (same_bytes w (codes "128") e) refl
-        | inr e ↦ rw (same_bytes w (codes "size") e) refl ] ] ] ] ]
+  | inl e ↦ rw (same_bytes w (codes "8") e) refl
+  | inr g ↦ elim (or_cases (bytes_eq w (codes "16")) _ g) [
+    | inl e ↦ rw (same_bytes w (codes "16") e) refl
+    | inr g ↦ elim (or_cases (bytes_eq w (codes "32")) _ g) [
+      | inl e ↦ rw (same_bytes w (codes "32") e) refl
+      | inr g ↦ elim (or_cases (bytes_eq w (codes "64")) _ g) [
+        | inl e ↦ rw (same_bytes w (codes "64") e) refl
+        | inr g ↦ elim (or_cases (bytes_eq w (codes "128")) _ g) [
+          | inl e ↦ rw (same_bytes w (codes "128") e) refl
+          | inr e ↦ rw (same_bytes w (codes "size") e) refl
+        ]
+      ]
+    ]
+  ]
+]
 
 more_same : (o : Option ℕ) (n : ℕ) → o ≡ Some n → more o ≡ Some (n + 1)
 more_same o n h = ap more h
@@ -170,7 +183,9 @@ numeral_of bytes =
     let d : drop (prefix_len is_digit bytes) bytes ≡ r.rest = ap (drop (prefix_len is_digit bytes)) r.joins ∙ drop_at r.front r.rest (prefix_len is_digit bytes) r.size in
     let j : r.rest ≡ s.front ++ s.behind = sym d ∙ s.joins in
     record {
-      digits = r.front; suffix = s.front; behind = s.behind;
+      digits = r.front;
+      suffix = s.front;
+      behind = s.behind;
       joins = r.joins ∙ ap (λ x. r.front ++ x) j ∙ sym (append_assoc r.front s.front s.behind);
       all = r.all;
       run = ap (take (prefix_len is_digit bytes)) r.joins ∙ take_at r.front r.rest (prefix_len is_digit bytes) r.size;
@@ -189,14 +204,16 @@ numeral_decimal b rest n h = decimal_at b rest n.digits (n.suffix ++ n.behind) h
 within_small : (digits : List ℕ) (value : ℕ) → number_within 10 (2 ^ 128 - 1) digits ≡ Some value → value_from 10 0 digits < 2 ^ 128
 unfolding number_within
 within_small digits value h = elim (if_cases (nat_le (value_from 10 0 digits) (2 ^ 128 - 1)) _ _ _ h) [
-    inl p ↦ let q = leb-true (value_from 10 0 digits) (2 ^ 128 - 1) p.0 in omega arith
-  | inr p ↦ cc (p.1) ]
+  | inl p ↦ let q = leb-true (value_from 10 0 digits) (2 ^ 128 - 1) p.0 in omega arith
+  | inr p ↦ cc (p.1)
+]
 
 within_none : (digits : List ℕ) → number_within 10 (2 ^ 128 - 1) digits ≡ None → 2 ^ 128 ≤ value_from 10 0 digits
 unfolding number_within
 within_none digits h = elim (if_cases (nat_le (value_from 10 0 digits) (2 ^ 128 - 1)) _ _ _ h) [
-    inl p ↦ cc (p.1)
-  | inr p ↦ let q = leb-false (value_from 10 0 digits) (2 ^ 128 - 1) p.0 in omega arith ]
+  | inl p ↦ cc (p.1)
+  | inr p ↦ let q = leb-false (value_from 10 0 digits) (2 ^ 128 - 1) p.0 in omega arith
+]
 
 within_some : (digits : List ℕ) → value_from 10 0 digits < 2 ^ 128 → number_within 10 (2 ^ 128 - 1) digits ≡ Some (value_from 10 0 digits)
 unfolding number_within
@@ -226,10 +243,17 @@ number_ok b rest f value d v h =
     let bytes = b ∷ rest in
     let n = numeral_of bytes in
     elim (if_cases (first_is is_word_byte (drop (numeral_len bytes) bytes)) _ _ _ h) [
-      inl p ↦ cc (p.1)
-    | inr p ↦ subst (λ (g : Found). IsAt bytes g.kind g.size) (same_ok (record { kind = kind.Number; size = numeral_len bytes }) f p.1)
-        (record { text = n.digits ++ n.suffix; rest = n.behind; joins = n.joins; size = n.size; good = number_good bytes n (numeral_decimal b rest n d) (number_fits b rest value v);
-          stops = not_from_false (first_is is_word_byte n.behind) (ap (first_is is_word_byte) (sym (drop_numeral bytes n)) ∙ p.0) }) ]
+      | inl p ↦ cc (p.1)
+      | inr p ↦ subst (λ (g : Found). IsAt bytes g.kind g.size) (same_ok (record { kind = kind.Number; size = numeral_len bytes }) f p.1)
+          (record {
+            text = n.digits ++ n.suffix;
+            rest = n.behind;
+            joins = n.joins;
+            size = n.size;
+            good = number_good bytes n (numeral_decimal b rest n d) (number_fits b rest value v);
+            stops = not_from_false (first_is is_word_byte n.behind) (ap (first_is is_word_byte) (sym (drop_numeral bytes n)) ∙ p.0);
+          })
+    ]
 
 number_by : (b : ℕ) (rest : List ℕ) (f : Found) (o : Option ℕ) → is_digit b ≡ true → number_within 10 (2 ^ 128 - 1) (take (prefix_len is_digit (b ∷ rest)) (b ∷ rest)) ≡ o
     → digits_of (prefix_len is_digit (b ∷ rest)) (b ∷ rest) o ≡ Ok f → IsAt (b ∷ rest) f.kind f.size
@@ -251,17 +275,27 @@ number_err b rest f value d v h =
     let bytes = b ∷ rest in
     let n = numeral_of bytes in
     elim (if_cases (first_is is_word_byte (drop (numeral_len bytes) bytes)) _ _ _ h) [
-      inl p ↦ let e = same_err (record { kind = fault.BadByte; skip = numeral_len bytes }) f p.1 in
-        On (sym (ap (λ (g : Fault). g.kind) e)) (subst (λ k. GoesOn k bytes) (ap (λ (g : Fault). g.skip) e)
-          (n.digits, n.suffix, n.behind, n.joins, numeral_decimal b rest n d, number_fits b rest value v, n.good, n.size, ap (first_is is_word_byte) (sym (drop_numeral bytes n)) ∙ p.0,
-           λ more end behind j m s. subst (λ x. length (more ++ end) ≤ numeral_len x) (sym j) (longest more end behind (and_parts (first_is is_digit more) (list_all is_digit more) m).1 s)))
-    | inr p ↦ cc (p.1) ]
+      | inl p ↦ let e = same_err (record { kind = fault.BadByte; skip = numeral_len bytes }) f p.1 in
+          On (sym (ap (λ (g : Fault). g.kind) e)) (subst (λ k. GoesOn k bytes) (ap (λ (g : Fault). g.skip) e) (
+            n.digits,
+            n.suffix,
+            n.behind,
+            n.joins,
+            numeral_decimal b rest n d,
+            number_fits b rest value v,
+            n.good,
+            n.size,
+            ap (first_is is_word_byte) (sym (drop_numeral bytes n)) ∙ p.0,
+            λ more end behind j m s. subst (λ x. length (more ++ end) ≤ numeral_len x) (sym j) (longest more end behind (and_parts (first_is is_digit more) (list_all is_digit more) m).1 s),
+          ))
+      | inr p ↦ cc (p.1)
+    ]
 
 number_fault_by : (b : ℕ) (rest : List ℕ) (f : Fault) (o : Option ℕ) → is_digit b ≡ true → number_within 10 (2 ^ 128 - 1) (take (prefix_len is_digit (b ∷ rest)) (b ∷ rest)) ≡ o
     → digits_of (prefix_len is_digit (b ∷ rest)) (b ∷ rest) o ≡ Err f → NumberFault (b ∷ rest) f
 number_fault_by b rest f None d v h = let n = numeral_of (b ∷ rest) in
     Wide (sym (same_err (record { kind = fault.NumberTooWide; skip = 0 }) f h))
-      (n.digits, n.suffix ++ n.behind, n.joins ∙ append_assoc n.digits n.suffix n.behind, numeral_decimal b rest n d, n.ends_run, within_none n.digits (ap (number_within 10 (2 ^ 128 - 1)) (sym n.run) ∙ v))
+    (n.digits, n.suffix ++ n.behind, n.joins ∙ append_assoc n.digits n.suffix n.behind, numeral_decimal b rest n d, n.ends_run, within_none n.digits (ap (number_within 10 (2 ^ 128 - 1)) (sym n.run) ∙ v))
 number_fault_by b rest f (Some value) d v h = number_err b rest f value d v h
 
 pub number_faults : (b : ℕ) (rest : List ℕ) (f : Fault) → is_digit b ≡ true → number_at (b ∷ rest) ≡ Err f → NumberFault (b ∷ rest) f

@@ -1,13 +1,13 @@
 -- Characters are found exactly.
-use Rattle.std.proofs.Common.{◌≡◌, ◌⊎◌, inl, inr, ℕ, suc, ◌+◌, ◌<◌, ◌≤◌, Bool, true, false, ◌==◌, not, ◌&&◌, ◌||◌, nat_le, nat_lt, if◌then◌else◌, List, [], ◌∷◌, ◌++◌, length, take, drop, Option, Some, None, Result, Ok, Err, refl, sym, ◌∙◌, ap, subst, arith, append_assoc, length-append, length-take}
-use Rattle.std.proofs.lemmas.Bool.{and_parts, and_from, or_from, or_parts, eqb-true, not-true, not_from_false, le-leb, cases_lt}
+use Rattle.std.proofs.Common.{◌≡◌, inl, inr, ℕ, ◌+◌, Bool, true, false, ◌==◌, not, ◌&&◌, nat_le, if◌then◌else◌, List, [], ◌∷◌, ◌++◌, length, take, drop, Option, Some, None, refl, sym, ◌∙◌, ap, subst, arith, append_assoc, length-append}
+use Rattle.std.proofs.lemmas.Bool.{and_parts, and_from, or_from, or_parts, eqb-true, not-true, not_from_false, cases_lt}
 use Rattle.std.proofs.lemmas.Bool.Decides.{nat_tests}
 use Rattle.std.proofs.lemmas.List.{take_at, drop_at, take_all, length-take-le, take-append-drop}
 use Rattle.std.specs.List.{prefix_len, list_all}
 use Rattle.mir_lex.specs.Bytes.{is_hex, is_apostrophe, is_scalar, is_char, is_tail, is_head_of_three, is_head_of_four, within, first_is, value_from, number_within}
 use Rattle.mir_lex.specs.Tokens.{Quoted, Scalar, Escape, Code, written, is_quoted, is_escape, is_code, is_special}
 use Rattle.mir_lex.specs.Lexing.{more, scalar_len, codes_char, is_code_of, code_len, escape_len, quoted_len, quote_behind}
-use Rattle.mir_lex.proofs.Runs.{if_cases, same_some, Run, run, run_ends}
+use Rattle.mir_lex.proofs.Runs.{if_cases, same_some, run, run_ends}
 use Rattle.mir_lex.proofs.NumberLaws.{more_some}
 
 -- what stands between quotes is at the front, with n bytes
@@ -23,8 +23,9 @@ pub record IsQuoted (bytes : List ℕ) (n : ℕ) : Type 0 where
 -- a longer front passes where a shorter one does not, so there are as many bytes
 scalar_size : (k : ℕ) (bytes : List ℕ) → is_scalar (take k bytes) ≡ false → is_scalar (take (k + 1) bytes) ≡ true → length (take (k + 1) bytes) ≡ k + 1
 scalar_size k bytes f t = elim (cases_lt k (length bytes)) [
-    inl l ↦ length-take-le (k + 1) bytes (omega arith)
-  | inr l ↦ let e : take k bytes ≡ take (k + 1) bytes = take_all k bytes l ∙ sym (take_all (k + 1) bytes (omega arith)) in cc (ap is_scalar e) ]
+  | inl l ↦ length-take-le (k + 1) bytes (omega arith)
+  | inr l ↦ let e : take k bytes ≡ take (k + 1) bytes = take_all k bytes l ∙ sym (take_all (k + 1) bytes (omega arith)) in cc (ap is_scalar e)
+]
 
 pub record IsScalarAt (bytes : List ℕ) (n : ℕ) : Type 0 where
   pub front : List ℕ
@@ -39,14 +40,18 @@ scalar_next k bytes n f t e = record { front = take (k + 1) bytes; rest = drop (
 scalar_takes : (bytes : List ℕ) (n : ℕ) → scalar_len bytes ≡ Some n → IsScalarAt bytes n
 unfolding scalar_len
 scalar_takes bytes n h = elim (if_cases (is_scalar (take 1 bytes)) _ _ _ h) [
-    inl p ↦ scalar_next 0 bytes n refl p.0 (same_some 1 n p.1)
+  | inl p ↦ scalar_next 0 bytes n refl p.0 (same_some 1 n p.1)
   | inr p ↦ elim (if_cases (is_scalar (take 2 bytes)) _ _ _ p.1) [
-      inl q ↦ scalar_next 1 bytes n p.0 q.0 (same_some 2 n q.1)
+    | inl q ↦ scalar_next 1 bytes n p.0 q.0 (same_some 2 n q.1)
     | inr q ↦ elim (if_cases (is_scalar (take 3 bytes)) _ _ _ q.1) [
-        inl r ↦ scalar_next 2 bytes n q.0 r.0 (same_some 3 n r.1)
+      | inl r ↦ scalar_next 2 bytes n q.0 r.0 (same_some 3 n r.1)
       | inr r ↦ elim (if_cases (is_scalar (take 4 bytes)) _ _ _ r.1) [
-          inl s ↦ scalar_next 3 bytes n r.0 s.0 (same_some 4 n s.1)
-        | inr s ↦ cc (s.1) ] ] ] ]
+        | inl s ↦ scalar_next 3 bytes n r.0 s.0 (same_some 4 n s.1)
+        | inr s ↦ cc (s.1)
+      ]
+    ]
+  ]
+]
 
 high_two : (a b : ℕ) → (within 194 223 a && is_tail b) ≡ true → nat_le a 127 ≡ false
 high_two a b h = grind (arith, nat_tests)
@@ -113,19 +118,21 @@ code_takes bytes n h =
     let k = prefix_len is_hex bytes in
     let r = run is_hex bytes in
     elim (if_cases (is_code_of k bytes) _ _ _ h) [
-      inl p ↦
-        let s = and_parts (nat_le 1 k && nat_le k 6) (codes_char (number_within 16 1114111 (take k bytes)) && first_is (λ c. c == 125) (drop k bytes)) p.0 in
-        let t = and_parts (codes_char (number_within 16 1114111 (take k bytes))) (first_is (λ c. c == 125) (drop k bytes)) s.1 in
-        let front : take k bytes ≡ r.front = ap (take k) r.joins ∙ take_at r.front r.rest k r.size in
-        let behind : drop k bytes ≡ r.rest = ap (drop k) r.joins ∙ drop_at r.front r.rest k r.size in
-        let b = bracket_at 125 r.rest (ap (first_is (λ c. c == 125)) (sym behind) ∙ t.1) in
-        record {
-          digits = r.front; rest = b.0;
-          joins = r.joins ∙ ap (λ x. r.front ++ x) b.1;
-          good = code_good r.front k r.all r.size s.0 (char_within r.front (ap (λ d. codes_char (number_within 16 1114111 d)) (sym front) ∙ t.0));
-          size = ap (λ m. m + 1) r.size ∙ same_some (k + 1) n p.1;
-        }
-    | inr p ↦ cc (p.1) ]
+      | inl p ↦
+          let s = and_parts (nat_le 1 k && nat_le k 6) (codes_char (number_within 16 1114111 (take k bytes)) && first_is (λ c. c == 125) (drop k bytes)) p.0 in
+          let t = and_parts (codes_char (number_within 16 1114111 (take k bytes))) (first_is (λ c. c == 125) (drop k bytes)) s.1 in
+          let front : take k bytes ≡ r.front = ap (take k) r.joins ∙ take_at r.front r.rest k r.size in
+          let behind : drop k bytes ≡ r.rest = ap (drop k) r.joins ∙ drop_at r.front r.rest k r.size in
+          let b = bracket_at 125 r.rest (ap (first_is (λ c. c == 125)) (sym behind) ∙ t.1) in
+          record {
+            digits = r.front;
+            rest = b.0;
+            joins = r.joins ∙ ap (λ x. r.front ++ x) b.1;
+            good = code_good r.front k r.all r.size s.0 (char_within r.front (ap (λ d. codes_char (number_within 16 1114111 d)) (sym front) ∙ t.0));
+            size = ap (λ m. m + 1) r.size ∙ same_some (k + 1) n p.1;
+          }
+      | inr p ↦ cc (p.1)
+    ]
 
 code_again : (digits rest : List ℕ) → is_code digits ≡ true → code_len (digits ++ 125 ∷ rest) ≡ Some (length digits + 1)
 unfolding code_len
@@ -152,7 +159,8 @@ escape_code a b rest n s h =
     let f = eqb-true b 123 t.1 in
     let j : rest ≡ (c.digits ++ 125 ∷ []) ++ c.rest = c.joins ∙ sym (append_assoc c.digits (125 ∷ []) c.rest) in
     record {
-      quoted = Code c.digits; rest = c.rest;
+      quoted = Code c.digits;
+      rest = c.rest;
       joins = rw e (rw f (ap (λ x. 92 ∷ 117 ∷ 123 ∷ x) j));
       good = c.good;
       size = let x = c.size in let y = k.2 in let z = m.2 in omega (arith, length-append c.digits (125 ∷ []));
@@ -161,13 +169,16 @@ escape_code a b rest n s h =
 escape_takes : (bytes : List ℕ) (n : ℕ) → escape_len bytes ≡ Some n → IsQuoted (92 ∷ bytes) (n + 1)
 escape_takes [] n h = cc
 escape_takes (a ∷ []) n h = elim (if_cases (is_escape a) _ _ _ h) [
-    inl p ↦ escape_one a [] n p.0 (same_some 1 n p.1)
-  | inr p ↦ cc (p.1) ]
+  | inl p ↦ escape_one a [] n p.0 (same_some 1 n p.1)
+  | inr p ↦ cc (p.1)
+]
 escape_takes (a ∷ b ∷ rest) n h = elim (if_cases (is_escape a) _ _ _ h) [
-    inl p ↦ escape_one a (b ∷ rest) n p.0 (same_some 1 n p.1)
+  | inl p ↦ escape_one a (b ∷ rest) n p.0 (same_some 1 n p.1)
   | inr p ↦ elim (if_cases (a == 117 && b == 123) _ _ _ p.1) [
-      inl q ↦ escape_code a b rest n q.0 q.1
-    | inr q ↦ cc (q.1) ] ]
+    | inl q ↦ escape_code a b rest n q.0 q.1
+    | inr q ↦ cc (q.1)
+  ]
+]
 
 scalar_quoted : (a : ℕ) (rest : List ℕ) (n : ℕ) → (a == 92) ≡ false → (a == 39) ≡ false → IsScalarAt (a ∷ rest) n → IsQuoted (a ∷ rest) n
 scalar_quoted a rest n s q i = record { quoted = Scalar i.front; rest = i.rest; joins = i.joins; good = and_from (is_scalar i.front) _ i.good (not_from_false (first_is is_special i.front) (plain_first i.front i.rest i.joins)); size = i.size }
@@ -179,11 +190,13 @@ scalar_quoted a rest n s q i = record { quoted = Scalar i.front; rest = i.rest; 
 quoted_takes_some : (bytes : List ℕ) (n : ℕ) → quoted_len bytes ≡ Some n → IsQuoted bytes n
 quoted_takes_some [] n h = cc
 quoted_takes_some (a ∷ rest) n h = elim (if_cases (a == 92) _ _ _ h) [
-    inl p ↦ let m = more_some (escape_len rest) n p.1 in
+  | inl p ↦ let m = more_some (escape_len rest) n p.1 in
       subst (λ x. IsQuoted (x ∷ rest) n) (sym (eqb-true a 92 p.0)) (subst (IsQuoted (92 ∷ rest)) m.2 (escape_takes rest m.0 m.1))
   | inr p ↦ elim (if_cases (a == 39) _ _ _ p.1) [
-      inl q ↦ cc (q.1)
-    | inr q ↦ scalar_quoted a rest n p.0 q.0 (scalar_takes (a ∷ rest) n q.1) ] ]
+    | inl q ↦ cc (q.1)
+    | inr q ↦ scalar_quoted a rest n p.0 q.0 (scalar_takes (a ∷ rest) n q.1)
+  ]
+]
 
 -- a character behind its first quote
 pub record IsCharacter (bytes : List ℕ) (n : ℕ) : Type 0 where
@@ -196,8 +209,9 @@ pub record IsCharacter (bytes : List ℕ) (n : ℕ) : Type 0 where
 behind_some : (bytes : List ℕ) (o : Option ℕ) (n : ℕ) → quote_behind bytes o ≡ Some n → (o ≡ Some n) × (first_is is_apostrophe (drop n bytes) ≡ true)
 behind_some bytes None n h = cc
 behind_some bytes (Some m) n h = elim (if_cases (first_is is_apostrophe (drop m bytes)) _ _ _ h) [
-    inl p ↦ (p.1, subst (λ k. first_is is_apostrophe (drop k bytes) ≡ true) (same_some m n p.1) p.0)
-  | inr p ↦ cc (p.1) ]
+  | inl p ↦ (p.1, subst (λ k. first_is is_apostrophe (drop k bytes) ≡ true) (same_some m n p.1) p.0)
+  | inr p ↦ cc (p.1)
+]
 
 pub character_takes : (bytes : List ℕ) (n : ℕ) → quote_behind bytes (quoted_len bytes) ≡ Some n → IsCharacter bytes n
 character_takes bytes n h =

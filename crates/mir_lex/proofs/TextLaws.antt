@@ -1,16 +1,14 @@
 -- Texts and impl segments are found exactly.
-use Rattle.std.proofs.Common.{◌≡◌, ◌⊎◌, inl, inr, ℕ, ◌+◌, ◌-◌, ◌<◌, ◌≤◌, Bool, true, false, ◌==◌, not, ◌&&◌, nat_le, nat_lt, if◌then◌else◌, List, [], ◌∷◌, ◌++◌, length, codes, Option, Some, None, Result, Ok, Err, refl, sym, ◌∙◌, ap, subst, arith, append_assoc, length-append}
-use Rattle.std.proofs.lemmas.Bool.{and_parts, and_from, eqb-true, ne_eqb, not-true, le-ltb, ltb-true, ltb-false}
+use Rattle.std.proofs.Common.{◌≡◌, inl, inr, ℕ, ◌+◌, ◌-◌, ◌≤◌, Bool, true, false, ◌==◌, not, ◌&&◌, nat_le, nat_lt, if◌then◌else◌, List, [], ◌∷◌, ◌++◌, length, Option, Some, None, Ok, Err, refl, sym, ap, arith}
+use Rattle.std.proofs.lemmas.Bool.{and_parts, eqb-true, ne_eqb, not-true, le-ltb, ltb-true, ltb-false}
 use Rattle.mir_lex.specs.declared.token.TokenKind.{TokenKind}
-use Rattle.mir_lex.specs.declared.token.TokenKind.TheVariants as kind
 use Rattle.mir_lex.specs.declared.fault.FaultKind.TheVariants as fault
 use Rattle.mir_lex.specs.declared.front.Found.{Found}
 use Rattle.mir_lex.specs.declared.front.Fault.{Fault}
-use Rattle.mir_lex.specs.Bytes.{is_blank}
-use Rattle.mir_lex.specs.Tokens.{is_text_body, is_segment_body, IsToken, ends}
-use Rattle.mir_lex.specs.Lexing.{Front, token_of, failed, more, closed, body_len, text_at, segment_len, segment_at}
+use Rattle.mir_lex.specs.Tokens.{is_text_body, is_segment_body}
+use Rattle.mir_lex.specs.Lexing.{more, closed, body_len, segment_len}
 use Rattle.mir_lex.proofs.Runs.{if_cases, same_ok, same_err, same_some}
-use Rattle.mir_lex.proofs.NumberLaws.{IsAt, more_some}
+use Rattle.mir_lex.proofs.NumberLaws.{more_some}
 
 -- bytes that pass stand before a byte c, so many
 pub record IsBefore (c : ℕ) (test : List ℕ → Bool) (bytes : List ℕ) (n : ℕ) : Type 0 where
@@ -32,15 +30,17 @@ body_at : (b : ℕ) (bytes : List ℕ) (quote slash : Bool) (n : ℕ) → (b == 
 body_at b bytes true slash n q k h i j = record { body = []; rest = bytes; joins = ap (λ r. r ∷ bytes) (eqb-true b 34 q); good = refl; size = same_some 0 n h }
 body_at b bytes false true n q k h i j = longer 34 b (is_text_body false) (is_text_body true) bytes (body_len true bytes) n h i (λ body g. rw k g)
 body_at b bytes false false n q k h i j = elim (if_cases (nat_le 32 b) (more (body_len false bytes)) None (Some n) h) [
-    inl s ↦ longer 34 b (is_text_body false) (is_text_body false) bytes (body_len false bytes) n s.1 j (λ body g. rw k (rw s.0 (rw q g)))
-  | inr s ↦ cc (s.1) ]
+  | inl s ↦ longer 34 b (is_text_body false) (is_text_body false) bytes (body_len false bytes) n s.1 j (λ body g. rw k (rw s.0 (rw q g)))
+  | inr s ↦ cc (s.1)
+]
 
 pub body_takes : (escaped : Bool) (bytes : List ℕ) (n : ℕ) → body_len escaped bytes ≡ Some n → IsBefore 34 (is_text_body escaped) bytes n
 body_takes true [] n h = cc
 body_takes false [] n h = cc
 body_takes true (b ∷ bytes) n h = elim (if_cases (nat_le 32 b) (more (body_len false bytes)) None (Some n) h) [
-    inl s ↦ longer 34 b (is_text_body true) (is_text_body false) bytes (body_len false bytes) n s.1 (body_takes false bytes) (λ body g. rw s.0 g)
-  | inr s ↦ cc (s.1) ]
+  | inl s ↦ longer 34 b (is_text_body true) (is_text_body false) bytes (body_len false bytes) n s.1 (body_takes false bytes) (λ body g. rw s.0 g)
+  | inr s ↦ cc (s.1)
+]
 body_takes false (b ∷ bytes) n h = body_at b bytes (b == 34) (b == 92) n refl refl h (body_takes true bytes) (body_takes false bytes)
 
 next_len : (b : ℕ) (rest : List ℕ) (o : Option ℕ) → o ≡ Some (length rest) → more o ≡ Some (length (b ∷ rest))
@@ -73,8 +73,9 @@ segment_at_byte depth b bytes false true false n u w d l h i =
     let one : depth ≡ 1 = omega (arith, ltb-false 1 depth d) in
     record { body = []; rest = bytes; joins = ap (λ r. r ∷ bytes) (eqb-true b 62 w); good = rw one refl; size = same_some 0 n h }
 segment_at_byte depth b bytes false false deep n u w d l h i = elim (if_cases (nat_le 32 b) (more (segment_len depth bytes)) None (Some n) h) [
-    inl s ↦ longer 62 b (is_segment_body depth) (is_segment_body depth) bytes (segment_len depth bytes) n s.1 (λ m. i depth m l) (λ body g. rw u (rw w (rw s.0 g)))
-  | inr s ↦ cc (s.1) ]
+  | inl s ↦ longer 62 b (is_segment_body depth) (is_segment_body depth) bytes (segment_len depth bytes) n s.1 (λ m. i depth m l) (λ body g. rw u (rw w (rw s.0 g)))
+  | inr s ↦ cc (s.1)
+]
 
 pub segment_takes : (depth : ℕ) (bytes : List ℕ) (n : ℕ) → 1 ≤ depth → segment_len depth bytes ≡ Some n → IsBefore 62 (is_segment_body depth) bytes n
 segment_takes depth [] n l h = cc

@@ -1,20 +1,17 @@
 -- The token at the front of bytes is found exactly.
-use Rattle.std.proofs.Common.{◌≡◌, ◌⊎◌, inl, inr, ℕ, ◌+◌, ◌<◌, ◌≤◌, Bool, true, false, ◌==◌, not, ◌&&◌, ◌||◌, nat_le, if◌then◌else◌, List, [], ◌∷◌, ◌++◌, length, drop, codes, Option, Some, None, Result, Ok, Err, refl, sym, ◌∙◌, ap, subst, arith, append_assoc, length-append}
-use Rattle.std.proofs.lemmas.Bool.{and_parts, and_from, and_right, or_left, or_right, or_from, or_parts, eqb-true, ne_eqb, not-true, not_from_false, true≢false}
+use Rattle.std.proofs.Common.{◌≡◌, inl, inr, ℕ, ◌+◌, ◌≤◌, true, false, ◌==◌, not, ◌&&◌, List, [], ◌∷◌, ◌++◌, length, drop, codes, Option, Some, None, Ok, refl, sym, ◌∙◌, ap, subst, arith, append_assoc, length-append}
+use Rattle.std.proofs.lemmas.Bool.{and_parts, and_from, eqb-true, not_from_false}
 use Rattle.std.proofs.lemmas.Bool.Decides.{nat_tests}
 use Rattle.std.specs.List.{list_all}
-use Rattle.mir_lex.specs.declared.token.TokenKind.{TokenKind}
 use Rattle.mir_lex.specs.declared.token.TokenKind.TheVariants as kind
-use Rattle.mir_lex.specs.declared.fault.FaultKind.TheVariants as fault
 use Rattle.mir_lex.specs.declared.front.Found.{Found}
-use Rattle.mir_lex.specs.declared.front.Fault.{Fault}
-use Rattle.mir_lex.specs.Bytes.{is_blank, is_digit, is_word_start, is_word_byte, is_quote, is_apostrophe, is_bracket, is_point, is_sign_byte, is_double, first_is}
-use Rattle.mir_lex.specs.Tokens.{is_word, is_decimal, is_sign, sign_ends, opens_impl, opens_segment, is_text_body, is_segment_body, Quoted, written, is_quoted, IsToken, ends, Begins}
-use Rattle.mir_lex.specs.Lexing.{Front, token_of, failed, body_len, text_at, quoted_len, quote_behind, character_or, lifetime_at, quote_at, segment_len, segment_at, sign_at, word_at, number_at, token_at}
-use Rattle.mir_lex.proofs.Runs.{if_cases, same_ok, same_err}
+use Rattle.mir_lex.specs.Bytes.{is_blank, is_digit, is_word_start, is_word_byte, is_quote, is_apostrophe, is_sign_byte, is_double, first_is}
+use Rattle.mir_lex.specs.Tokens.{is_word, is_decimal, opens_impl, opens_segment, is_text_body, is_segment_body, Quoted, written, is_quoted, IsToken}
+use Rattle.mir_lex.specs.Lexing.{token_of, body_len, text_at, quoted_len, quote_behind, character_or, lifetime_at, quote_at, segment_len, segment_at, sign_at, word_at, number_at, token_at}
+use Rattle.mir_lex.proofs.Runs.{if_cases, same_ok}
 use Rattle.mir_lex.proofs.NumberLaws.{IsAt, number_takes, number_again}
-use Rattle.mir_lex.proofs.WordLaws.{word_takes, word_again, lifetime_takes, lifetime_again}
-use Rattle.mir_lex.proofs.TextLaws.{IsBefore, body_takes, body_again, segment_takes, segment_again, closed_ok}
+use Rattle.mir_lex.proofs.WordLaws.{word_takes, word_again, lifetime_takes}
+use Rattle.mir_lex.proofs.TextLaws.{body_takes, body_again, segment_takes, segment_again, closed_ok}
 use Rattle.mir_lex.proofs.QuotedLaws.{character_takes, character_again}
 
 -- What is found is a token.
@@ -25,20 +22,24 @@ text_takes b rest f q h =
     let c = closed_ok kind.Text 2 (body_len false rest) f h in
     let i = body_takes false rest c.0 c.1 in
     subst (λ x. IsAt (x ∷ rest) f.kind f.size) (sym (eqb-true b 34 q)) (subst (λ (g : Found). IsAt (34 ∷ rest) g.kind g.size) (sym c.2)
-      (record {
-        text = 34 ∷ (i.body ++ 34 ∷ []); rest = i.rest;
-        joins = ap (λ x. 34 ∷ x) (i.joins ∙ sym (append_assoc i.body (34 ∷ []) i.rest));
-        size = let e = i.size in omega (arith, length-append i.body (34 ∷ []));
-        good = (i.body, refl, i.good); stops = refl;
-      }))
+    (record {
+      text = 34 ∷ (i.body ++ 34 ∷ []);
+      rest = i.rest;
+      joins = ap (λ x. 34 ∷ x) (i.joins ∙ sym (append_assoc i.body (34 ∷ []) i.rest));
+      size = let e = i.size in omega (arith, length-append i.body (34 ∷ []));
+      good = (i.body, refl, i.good);
+      stops = refl;
+    }))
 
 character_at : (rest : List ℕ) (n : ℕ) → quote_behind rest (quoted_len rest) ≡ Some n → IsAt (39 ∷ rest) kind.Character (n + 2)
 character_at rest n h = let c = character_takes rest n h in
     record {
-      text = 39 ∷ (written c.quoted ++ 39 ∷ []); rest = c.rest;
+      text = 39 ∷ (written c.quoted ++ 39 ∷ []);
+      rest = c.rest;
       joins = ap (λ x. 39 ∷ x) (c.joins ∙ sym (append_assoc (written c.quoted) (39 ∷ []) c.rest));
       size = let e = c.size in omega (arith, length-append (written c.quoted) (39 ∷ []));
-      good = (c.quoted, refl, c.good); stops = refl;
+      good = (c.quoted, refl, c.good);
+      stops = refl;
     }
 
 quote_by : (rest : List ℕ) (f : Found) (o : Option ℕ) → quote_behind rest (quoted_len rest) ≡ o → character_or (lifetime_at rest) o ≡ Ok f → IsAt (39 ∷ rest) f.kind f.size
@@ -82,12 +83,14 @@ segment_found blank rest f g h =
     let c = closed_ok kind.ImplSegment 7 (segment_len 1 rest) f h in
     let i = segment_takes 1 rest c.0 (omega arith) c.1 in
     subst (λ (g : Found). IsAt (codes "<impl" ++ blank ∷ rest) g.kind g.size) (sym c.2)
-      (record {
-        text = codes "<impl" ++ blank ∷ (i.body ++ 62 ∷ []); rest = i.rest;
-        joins = ap (λ x. codes "<impl" ++ blank ∷ x) (i.joins ∙ sym (append_assoc i.body (62 ∷ []) i.rest));
-        size = let e = i.size in omega (arith, length-append i.body (62 ∷ []));
-        good = (blank, i.body, refl, g, i.good); stops = refl;
-      })
+    (record {
+      text = codes "<impl" ++ blank ∷ (i.body ++ 62 ∷ []);
+      rest = i.rest;
+      joins = ap (λ x. codes "<impl" ++ blank ∷ x) (i.joins ∙ sym (append_assoc i.body (62 ∷ []) i.rest));
+      size = let e = i.size in omega (arith, length-append i.body (62 ∷ []));
+      good = (blank, i.body, refl, g, i.good);
+      stops = refl;
+    })
 
 segment_by : (bytes : List ℕ) (f : Found) → opens_segment bytes ≡ true → segment_at (drop 6 bytes) ≡ Ok f → IsAt bytes f.kind f.size
 segment_by bytes f o h = let p = opened bytes o in
@@ -95,9 +98,13 @@ segment_by bytes f o h = let p = opened bytes o in
 
 single_takes : (a : ℕ) (rest : List ℕ) → first_is (is_double a) rest ≡ false → is_sign_byte a ≡ true → opens_segment (a ∷ rest) ≡ false → IsAt (a ∷ rest) kind.Sign 1
 single_takes a rest d s o = record {
-    text = a ∷ []; rest = rest; joins = refl; size = refl; good = s;
-    stops = and_from (not (first_is (is_double a) rest)) (not ((a == 60) && opens_impl rest)) (not_from_false (first_is (is_double a) rest) d) (not_from_false ((a == 60) && opens_impl rest) o);
-  }
+  text = a ∷ [];
+  rest = rest;
+  joins = refl;
+  size = refl;
+  good = s;
+  stops = and_from (not (first_is (is_double a) rest)) (not ((a == 60) && opens_impl rest)) (not_from_false (first_is (is_double a) rest) d) (not_from_false ((a == 60) && opens_impl rest) o);
+}
 
 double_takes : (a : ℕ) (rest : List ℕ) → first_is (is_double a) rest ≡ true → IsAt (a ∷ rest) kind.Sign 2
 double_takes a [] h = cc
@@ -106,24 +113,31 @@ double_takes a (b ∷ rest) h = record { text = a ∷ b ∷ []; rest = rest; joi
 sign_takes : (a : ℕ) (rest : List ℕ) (f : Found) → opens_segment (a ∷ rest) ≡ false → sign_at (a ∷ rest) ≡ Ok f → IsAt (a ∷ rest) f.kind f.size
 unfolding sign_at
 sign_takes a rest f o h = elim (if_cases (first_is (is_double a) rest) _ _ _ h) [
-    inl p ↦ subst (λ (g : Found). IsAt (a ∷ rest) g.kind g.size) (same_ok (record { kind = kind.Sign; size = 2 }) f p.1) (double_takes a rest p.0)
+  | inl p ↦ subst (λ (g : Found). IsAt (a ∷ rest) g.kind g.size) (same_ok (record { kind = kind.Sign; size = 2 }) f p.1) (double_takes a rest p.0)
   | inr p ↦ elim (if_cases (is_sign_byte a) _ _ _ p.1) [
-      inl q ↦ subst (λ (g : Found). IsAt (a ∷ rest) g.kind g.size) (same_ok (record { kind = kind.Sign; size = 1 }) f q.1) (single_takes a rest p.0 q.0 o)
-    | inr q ↦ cc (q.1) ] ]
+    | inl q ↦ subst (λ (g : Found). IsAt (a ∷ rest) g.kind g.size) (same_ok (record { kind = kind.Sign; size = 1 }) f q.1) (single_takes a rest p.0 q.0 o)
+    | inr q ↦ cc (q.1)
+  ]
+]
 
 pub token_takes : (b : ℕ) (rest : List ℕ) (f : Found) → token_at (b ∷ rest) ≡ Ok f → IsAt (b ∷ rest) f.kind f.size
 unfolding token_at
 token_takes b rest f h = elim (if_cases (is_word_start b) _ _ _ h) [
-    inl p ↦ word_takes b rest f p.0 p.1
+  | inl p ↦ word_takes b rest f p.0 p.1
   | inr p ↦ elim (if_cases (is_digit b) _ _ _ p.1) [
-      inl q ↦ number_takes b rest f q.0 q.1
+    | inl q ↦ number_takes b rest f q.0 q.1
     | inr q ↦ elim (if_cases (is_quote b) _ _ _ q.1) [
-        inl r ↦ text_takes b rest f r.0 r.1
+      | inl r ↦ text_takes b rest f r.0 r.1
       | inr r ↦ elim (if_cases (is_apostrophe b) _ _ _ r.1) [
-          inl s ↦ quote_takes b rest f s.0 s.1
+        | inl s ↦ quote_takes b rest f s.0 s.1
         | inr s ↦ elim (if_cases (opens_segment (b ∷ rest)) _ _ _ s.1) [
-            inl t ↦ segment_by (b ∷ rest) f t.0 t.1
-          | inr t ↦ sign_takes b rest f t.0 t.1 ] ] ] ] ]
+          | inl t ↦ segment_by (b ∷ rest) f t.0 t.1
+          | inr t ↦ sign_takes b rest f t.0 t.1
+        ]
+      ]
+    ]
+  ]
+]
 
 -- A token is found.
 
@@ -177,7 +191,7 @@ character_found quoted rest g =
     let n : length (written quoted) + 2 ≡ length (39 ∷ (written quoted ++ 39 ∷ [])) = omega (arith, length-append (written quoted) (39 ∷ [])) in
     let j : (written quoted ++ 39 ∷ []) ++ rest ≡ written quoted ++ 39 ∷ rest = append_assoc (written quoted) (39 ∷ []) rest in
     subst (λ x. character_or (lifetime_at x) (quote_behind x (quoted_len x)) ≡ token_of kind.Character (length (39 ∷ (written quoted ++ 39 ∷ [])))) (sym j)
-      (ap (character_or (lifetime_at (written quoted ++ 39 ∷ rest))) (character_again quoted rest g) ∙ ap (token_of kind.Character) n)
+    (ap (character_or (lifetime_at (written quoted ++ 39 ∷ rest))) (character_again quoted rest g) ∙ ap (token_of kind.Character) n)
 
 pub segment_again_at : (body rest : List ℕ) (n : ℕ) → is_segment_body 1 body ≡ true → length body + 7 ≡ n → segment_at ((body ++ 62 ∷ []) ++ rest) ≡ token_of kind.ImplSegment n
 unfolding segment_at

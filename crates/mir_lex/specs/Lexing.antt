@@ -1,5 +1,5 @@
 -- The token at the front of bytes, as functions.
-use Rattle.std.specs.Prelude.{ℕ, zero, suc, ◌+◌, ◌-◌, ◌^◌, Bool, true, false, ◌&&◌, ◌||◌, not, ◌==◌, nat_le, nat_lt, if◌then◌else◌, List, [], ◌∷◌, length, take, drop, codes, Option, Some, None, option_map, unwrap_or, Result, Ok, Err}
+use Rattle.std.specs.Prelude.{ℕ, zero, suc, ◌+◌, ◌-◌, ◌^◌, Bool, true, false, ◌&&◌, ◌||◌, not, ◌==◌, nat_le, nat_lt, if◌then◌else◌, List, [], ◌∷◌, length, take, drop, codes, Option, Some, None, unwrap_or, Result, Ok, Err}
 use Rattle.std.specs.List.{prefix_len}
 use Rattle.mir_lex.specs.declared.token.TokenKind.{TokenKind}
 use Rattle.mir_lex.specs.declared.token.TokenKind.TheVariants as kind

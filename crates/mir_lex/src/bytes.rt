@@ -1,5 +1,5 @@
 ghost use Rattle.std.specs.Prelude.{◌≡◌, ◌≤◌, length, take, drop};
-ghost use Rattle.std.specs.List.{prefix_len};
+ghost use Rattle.std.specs.List.{list_all, prefix_len};
 ghost use Rattle.mir_lex.specs.Bytes.{within, is_separator, is_blank, is_digit, is_hex, is_word_start, is_word_byte, is_quote, is_apostrophe, is_bracket, is_point, is_sign_byte, is_double, first_is, starts};
 
 pub fn within(low: u8, high: u8, byte: u8) -> bool
@@ -58,6 +58,19 @@ pub fn digits_len(bytes: &[u8]) -> usize
     ensures within { result ≤ length bytes.now }
 {
     bytes.iter().take_while(|b| is_digit(**b)).count()
+}
+
+pub fn are_digits(bytes: &[u8]) -> bool
+    ensures { result ≡ list_all is_digit bytes.now }
+{
+    let mut left = bytes;
+    while let [byte, rest @ ..] = left {
+        if !is_digit(*byte) {
+            return false;
+        }
+        left = rest;
+    }
+    true
 }
 
 /// How many hexadecimal digits stand at the front.
@@ -147,7 +160,9 @@ fn is_point(byte: u8) -> bool
 pub fn is_double(first: u8, second: u8) -> bool
     ensures { result ≡ is_double first second }
 {
-    (first == b'-' && second == b'>') || (first == b'=' && second == b'>') || (first == b':' && second == b':')
+    (first == b'-' && second == b'>')
+        || (first == b'=' && second == b'>')
+        || (first == b':' && second == b':')
 }
 
 /// The bytes behind the first `len`.

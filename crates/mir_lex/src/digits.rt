@@ -1,4 +1,4 @@
-ghost use Rattle.std.specs.Prelude.{◌≡◌, ◌<◌};
+ghost use Rattle.std.specs.Prelude.{◌≡◌, ◌<◌, ◌≤◌, IfSome};
 ghost use Rattle.mir_lex.specs.Bytes.{digit_value, number_within};
 
 /// What a decimal or hexadecimal digit counts.
@@ -17,7 +17,8 @@ fn digit_value(byte: u8) -> u8
 /// The number that digits write in this base, where it is at most `most`.
 pub fn number_within(base: u128, most: u128, digits: &[u8]) -> Option<u128>
     requires { 0 < base }
-    ensures { result ≡ number_within base most digits.now }
+    ensures value { result ≡ number_within base most digits.now }
+    ensures small { IfSome result (λ n. n ≤ most) }
 {
     let mut value: u128 = 0;
     let mut left = digits;

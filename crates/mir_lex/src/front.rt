@@ -4,7 +4,8 @@ ghost use Rattle.mir_lex.specs.Tokens.{opens_impl, opens_segment};
 ghost use Rattle.mir_lex.specs.Lexing.{token_of, failed, word_at, width_len, name_len, suffix_len, number_of, number_at, body_len, text_at, segment_len, segment_at, sign_at, token_at};
 
 use crate::bytes::{
-    behind, digits_len, goes_on, is_blank, is_digit, is_double, is_sign_byte, is_word_start, starts, word_len,
+    behind, digits_len, goes_on, is_blank, is_digit, is_double, is_sign_byte, is_word_start,
+    starts, word_len,
 };
 use crate::digits::number_within;
 use crate::fault::FaultKind;

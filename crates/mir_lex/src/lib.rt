@@ -2,6 +2,7 @@
 //! (`specs/Tokens.antt`).
 #![tactic(auto)]
 
+mod agreement;
 mod bytes;
 mod character;
 mod digits;
@@ -10,10 +11,14 @@ mod front;
 mod lexer;
 mod place_in_text;
 mod quoted;
+mod seen;
 mod token;
 
+pub use agreement::one_lexing;
 pub use fault::{FaultKind, LexFault};
 pub use lexer::{MAX_TEXT, tokens};
 pub use place_in_text::text_place;
 pub use token::{Token, TokenKind};
 
+#[cfg(test)]
+mod tests;

@@ -75,13 +75,7 @@ fn escape_len(bytes: &[u8]) -> Option<usize>
 {
     match bytes {
         [] => None,
-        [first] => {
-            if is_escape(*first) {
-                Some(1)
-            } else {
-                None
-            }
-        }
+        [first] => { if is_escape(*first) { Some(1) } else { None } }
         [first, second, rest @ ..] => {
             if is_escape(*first) {
                 Some(1)

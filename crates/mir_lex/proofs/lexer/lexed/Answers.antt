@@ -1,4 +1,4 @@
-use Rattle.std.proofs.Common.{◌≡◌, ◌+◌, ◌-◌, ◌++◌, sym, ◌∙◌, ap, length, arith, Ok}
+use Rattle.std.proofs.Common.{◌+◌, ◌-◌, sym, ◌∙◌, ap, length, arith, Ok}
 use Rattle.mir_lex.specs.Lexing.{lexed, lexed_from}
 use Rattle.mir_lex.proofs.Bounds.{found_within, fault_within}
 use Rattle.mir_lex.proofs.LexSteps.{lexed_all, lexed_fault, lexed_one, with_before}

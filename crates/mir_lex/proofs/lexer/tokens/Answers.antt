@@ -1,4 +1,4 @@
-use Rattle.std.proofs.Common.{◌≡◌, sym, ◌∙◌, subst}
+use Rattle.std.proofs.Common.{sym, subst}
 use Rattle.mir_lex.specs.Tokens.{IsLexing}
 use Rattle.mir_lex.proofs.Answering.{answer_right}
 use Rattle.mir_lex.proofs.lexer.tokens.Goals as goal
