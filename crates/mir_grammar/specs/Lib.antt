@@ -2,3 +2,4 @@ pub mod Lexemes
 pub mod Names
 pub mod Types
 pub mod Places
+pub mod Values
