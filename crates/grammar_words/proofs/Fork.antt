@@ -119,3 +119,8 @@ moves-both c k l p f g t u e = go (has k (c t)) refl
     go : (i : Bool) → has k (c t) ≡ i → length (left (p (t ∷ u))) ≤ length u
     go true i = f t u i
     go false i = g t u (not_false (has k (c t)) (has l (c t)) (sym (has_append k l (c t)) ∙ e) i)
+
+-- tokens of b that are not in k go to the first part
+pub moves-fork : {K A : Type 0} (c : K → ℕ) (l b k d : List ℕ) (p q : Reader K A) → subset l b ≡ true → apart l k ≡ true → Moves c l p → Moves c l (choose (bare c b k d) p q)
+moves-fork c l b k d p q s a h t u e =
+    rw (chosen_true (bare c b k d) p q (t ∷ u) (alone (inside c b t) (inside c k t) (starts (inside c d) u) (inside_apart c l k t a e) ∙ inside_subset c l b t s e)) (h t u e)

@@ -3,3 +3,4 @@ pub mod TypeReady
 pub mod TypeFirsts
 pub mod TypeLevels
 pub mod PlaceReady
+pub mod ValueReady

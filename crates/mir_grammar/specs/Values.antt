@@ -300,3 +300,96 @@ to_path_fields v = record { value = rvalue.PathFields v.0.text (values_of v.1); 
 
 abbrev pub RvalueOf : Family → Part Lexeme Placed → Part Lexeme Value
 RvalueOf T P = Either (FormedValue T P) (Either (Made to_path_unit (ValuePath T)) (Either (Made to_path_tuple (Then (ValuePath T) (Operands T P))) (Made to_path_fields (Then (ValuePath T) (Fields T P)))))
+
+-- Their readings.
+
+abbrev pub formed_constant_at : Reader Lexeme (Limited Constant)
+formed_constant_at = pick (inside class_of (36 ∷ 37 ∷ [])) (made to_plus (tok class_of (36 ∷ 37 ∷ []))) (pick (inside class_of (19 ∷ [])) (made to_minus (past class_of (19 ∷ []) (tok class_of (36 ∷ 38 ∷ []))))
+    (pick (inside class_of truths) (made to_bool (tok class_of truths)) (pick (inside class_of (41 ∷ [])) (made to_char (tok class_of (41 ∷ [])))
+    (pick (inside class_of (40 ∷ [])) (made to_text (tok class_of (40 ∷ []))) (made to_unit (past class_of (1 ∷ []) (tok class_of (2 ∷ []))))))))
+
+abbrev pub constant_firsts : List ℕ
+constant_firsts = 36 ∷ 37 ∷ 19 ∷ 41 ∷ 40 ∷ 1 ∷ truths
+
+unfoldable pub constant_at : ℕ → Readers → Reader Lexeme (Limited Constant)
+constant_at m t = choose (bare class_of constant_firsts truths colons) formed_constant_at (made to_named (path_from_at m truths constant_words t))
+
+abbrev pub marked_at : ℕ → Readers → Reader Lexeme Placed → Reader Lexeme (Limited Operand)
+marked_at m t p = pick (inside class_of (120 ∷ [])) (made to_copy (past class_of (120 ∷ []) p)) (pick (inside class_of (121 ∷ [])) (made to_move (past class_of (121 ∷ []) p)) (made to_const (past class_of (116 ∷ []) (constant_at m t))))
+
+unfoldable pub operand_at : ℕ → Readers → Reader Lexeme Placed → Reader Lexeme (Limited Operand)
+operand_at m t p = pick (inside class_of place_firsts) (made to_copy p) (marked_at m t p)
+
+abbrev pub operands_at : ℕ → Readers → Reader Lexeme Placed → Reader Lexeme (List (Limited Operand))
+operands_at m t p = past class_of (1 ∷ []) (ended class_of (listed class_of operand_firsts (9 ∷ []) (operand_at m t p) m) (2 ∷ []))
+
+abbrev pub coercion_at : Reader Lexeme CastKind
+coercion_at = made to_coercion (joined (tok class_of (155 ∷ 156 ∷ [])) (perhaps class_of (9 ∷ []) false (made (λ t. true) (past class_of (9 ∷ []) (tok class_of any_word)))))
+
+abbrev pub kind_at : Reader Lexeme CastKind
+kind_at = pick (inside class_of (152 ∷ 153 ∷ [])) (made to_plain_kind (tok class_of (152 ∷ 153 ∷ []))) (past class_of (154 ∷ []) (past class_of (1 ∷ []) (ended class_of coercion_at (2 ∷ []))))
+
+abbrev pub cast_to_at : Readers → Reader Lexeme (Option (Named × CastKind))
+cast_to_at t = made Some (past class_of (118 ∷ []) (joined (t AnyType) (past class_of (1 ∷ []) (ended class_of kind_at (2 ∷ [])))))
+
+abbrev pub used_at : ℕ → Readers → Reader Lexeme Placed → Reader Lexeme Value
+used_at m t p = made to_used (joined (operand_at m t p) (perhaps class_of (118 ∷ []) None (cast_to_at t)))
+
+abbrev pub binary_at : ℕ → Readers → Reader Lexeme Placed → Reader Lexeme Value
+binary_at m t p = made to_binary (joined (tok class_of binaries) (past class_of (1 ∷ []) (joined (operand_at m t p) (past class_of (9 ∷ []) (ended class_of (operand_at m t p) (2 ∷ []))))))
+
+abbrev pub unaries : List ℕ
+unaries = 144 ∷ 145 ∷ 146 ∷ []
+
+abbrev pub measures : List ℕ
+measures = 147 ∷ 148 ∷ []
+
+abbrev pub sizes : List ℕ
+sizes = 149 ∷ 150 ∷ []
+
+abbrev pub unary_at : ℕ → Readers → Reader Lexeme Placed → Reader Lexeme Value
+unary_at m t p = made to_unary (joined (tok class_of unaries) (past class_of (1 ∷ []) (ended class_of (operand_at m t p) (2 ∷ []))))
+
+abbrev pub measured_at : Reader Lexeme Placed → Reader Lexeme Value
+measured_at p = made to_measured (joined (tok class_of measures) (past class_of (1 ∷ []) (ended class_of p (2 ∷ []))))
+
+abbrev pub sized_at : Readers → Reader Lexeme Value
+sized_at t = made to_sized (joined (tok class_of sizes) (past class_of (1 ∷ []) (ended class_of (t AnyType) (2 ∷ []))))
+
+abbrev pub reference_at : Reader Lexeme Placed → Reader Lexeme Value
+reference_at p = past class_of (15 ∷ []) (pick (inside class_of (151 ∷ [])) (made to_raw_of (past class_of (151 ∷ []) (pick (inside class_of (117 ∷ [])) (made mutable (past class_of (117 ∷ []) p)) (made immutable (past class_of (116 ∷ []) p)))))
+    (made to_ref_of (pick (inside class_of (117 ∷ [])) (made mutable (past class_of (117 ∷ []) p)) (made immutable p))))
+
+abbrev pub array_rest_at : ℕ → Readers → Reader Lexeme Placed → Reader Lexeme ArrayTail
+array_rest_at m t p = pick (inside class_of (10 ∷ [])) (made Times (past class_of (10 ∷ []) (ended class_of (tok class_of (35 ∷ [])) (4 ∷ [])))) (made Others (ended class_of (many (inside class_of (9 ∷ [])) (past class_of (9 ∷ []) (operand_at m t p)) m) (4 ∷ [])))
+
+abbrev pub array_of_at : ℕ → Readers → Reader Lexeme Placed → Reader Lexeme Value
+array_of_at m t p = past class_of (3 ∷ []) (pick (inside class_of (4 ∷ [])) (made to_no_array (tok class_of (4 ∷ []))) (made to_array_of (joined (operand_at m t p) (array_rest_at m t p))))
+
+abbrev pub tuple_of_at : ℕ → Readers → Reader Lexeme Placed → Reader Lexeme Value
+tuple_of_at m t p = made to_tuple_of (past class_of (1 ∷ []) (ended class_of (trailed class_of marks (9 ∷ []) (marked_at m t p) m) (2 ∷ [])))
+
+abbrev pub operator_at : ℕ → Readers → Reader Lexeme Placed → Reader Lexeme Value
+operator_at m t p = pick (inside class_of binaries) (binary_at m t p) (pick (inside class_of unaries) (unary_at m t p) (pick (inside class_of measures) (measured_at p) (sized_at t)))
+
+-- what stands behind ( in a tuple
+abbrev pub tuple_seconds : List ℕ
+tuple_seconds = 2 ∷ 9 ∷ marks
+
+unfoldable pub used_or_tuple_at : ℕ → Readers → Reader Lexeme Placed → Reader Lexeme Value
+used_or_tuple_at m t p = choose (bare class_of operand_firsts (1 ∷ []) tuple_seconds) (used_at m t p) (tuple_of_at m t p)
+
+abbrev pub formed_value_at : ℕ → Readers → Reader Lexeme Placed → Reader Lexeme Value
+formed_value_at m t p = pick (inside class_of operand_firsts) (used_or_tuple_at m t p) (pick (inside class_of (run 124 27)) (operator_at m t p) (pick (inside class_of (15 ∷ [])) (reference_at p) (array_of_at m t p)))
+
+abbrev pub formed_value_firsts : List ℕ
+formed_value_firsts = 30 ∷ 31 ∷ 1 ∷ 15 ∷ 3 ∷ value_words
+
+abbrev pub value_path_at : ℕ → Readers → Reader Lexeme Named
+value_path_at m t = path_from_at m value_words free_words t
+
+abbrev pub field_at : ℕ → Readers → Reader Lexeme Placed → Reader Lexeme (Limited NamedOperand)
+field_at m t p = made to_field (joined (tok class_of any_word) (past class_of (11 ∷ []) (operand_at m t p)))
+
+abbrev pub fields_at : ℕ → Readers → Reader Lexeme Placed → Reader Lexeme (List (Limited NamedOperand))
+fields_at m t p = past class_of (5 ∷ []) (ended class_of (listed class_of any_word (9 ∷ []) (field_at m t p) m) (6 ∷ []))
