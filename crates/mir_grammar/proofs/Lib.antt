@@ -4,3 +4,4 @@ pub mod TypeFirsts
 pub mod TypeLevels
 pub mod PlaceReady
 pub mod ValueReady
+pub mod ValueFork
