@@ -3,3 +3,4 @@ pub mod Names
 pub mod Types
 pub mod Places
 pub mod Values
+pub mod Blocks

@@ -8,12 +8,13 @@ use Rattle.mir_ir.specs.Names.{int_of_name}
 use Rattle.mir_ir.specs.declared.types.IntTy.{IntTy}
 use Rattle.mir_grammar.specs.Lexemes.{Lexeme, number_value}
 
--- a type or a path: the type that it is, its canonical text as it stands in a longer path, and whether some path in it is
--- longer than 256 bytes
+-- a type or a path: the type that it is, its canonical text as it stands in a longer path, whether some path in it is
+-- longer than 256 bytes, and the type argument of a path that is a built-in callee with one
 pub record Named : Type 0 where
   pub ty : Ty
   pub text : List ℕ
   pub is_long : Bool
+  pub argument : Option Ty
 
 -- what stands in the angle brackets of a path
 pub data Argument : Type 0 where
@@ -114,6 +115,34 @@ abbrev pub box_or_name : Option Ty → List ℕ → Ty
 box_or_name None text = ty.Named text
 box_or_name (Some t) text = ty.BoxOf t
 
+-- the type, where these words are those
+abbrev pub only_where : List (List ℕ) → List (List ℕ) → Option Ty → Option Ty
+only_where [] [] t = t
+only_where [] (b ∷ bs) t = None
+only_where (a ∷ as_) [] t = None
+only_where (a ∷ as_) (b ∷ bs) t = if bytes_eq a b then only_where as_ bs t else None
+
+-- words in a row, then arguments, and then perhaps one more word
+abbrev pub words_then : List (List ℕ) → List (List ℕ) → List Step → Option Ty
+words_then [] last (StepArguments arguments ∷ []) = only_where last [] (only_type arguments)
+words_then [] last (StepArguments arguments ∷ StepWord w ∷ []) = only_where last (w ∷ []) (only_type arguments)
+words_then [] last steps = None
+words_then (a ∷ words) last (StepWord w ∷ steps) = if bytes_eq a w then words_then words last steps else None
+words_then (a ∷ words) last steps = None
+
+abbrev pub first_some : Option Ty → Option Ty → Option Ty
+first_some None b = b
+first_some (Some t) b = Some t
+
+-- the T of kani::any<T>, Box<T>::new, std::boxed::Box<T>::new, std::ptr::null<T> and std::ptr::null_mut<T>
+abbrev pub argument_of : Head → List Step → Option Ty
+argument_of (HeadText text long) steps = None
+argument_of (HeadWord w) steps =
+    if bytes_eq (codes "kani") w then words_then (codes "any" ∷ []) [] steps
+    else (if bytes_eq (codes "Box") w then words_then [] (codes "new" ∷ []) steps
+    else (if bytes_eq (codes "std") w then first_some (words_then (codes "boxed" ∷ codes "Box" ∷ []) (codes "new" ∷ []) steps)
+      (first_some (words_then (codes "ptr" ∷ codes "null" ∷ []) [] steps) (words_then (codes "ptr" ∷ codes "null_mut" ∷ []) [] steps)) else None))
+
 abbrev pub is_over : List ℕ → Bool
 is_over text = nat_lt 256 (length text)
 
@@ -122,6 +151,7 @@ to_path v = record {
   ty = box_or_name (boxed_type v.0 v.1) (path_text v.0 v.1);
   text = path_text v.0 v.1;
   is_long = is_over (path_text v.0 v.1) || (head_is_long v.0 || some_is step_is_long v.1);
+  argument = argument_of v.0 v.1;
 }
 
 -- a path whose first word is this token
@@ -137,7 +167,7 @@ qualified_text t p = codes "<" ++ (t ++ (codes " as " ++ (p ++ codes ">")))
 
 -- <T as P>
 unfoldable pub to_qualified : Named × Named → Named
-to_qualified v = record { ty = ty.Named (qualified_text v.0.text v.1.text); text = qualified_text v.0.text v.1.text; is_long = v.0.is_long || v.1.is_long }
+to_qualified v = record { ty = ty.Named (qualified_text v.0.text v.1.text); text = qualified_text v.0.text v.1.text; is_long = v.0.is_long || v.1.is_long; argument = None }
 
 abbrev pub named_head : Named → Head
 named_head n = HeadText n.text n.is_long
@@ -167,7 +197,7 @@ plain_type text = if bytes_eq (codes "bool") text then ty.Bool else (if bytes_eq
     else (if bytes_eq (codes "!") text then ty.Never else (if bytes_eq (codes "str") text then ty.Str else int_or_name (int_of_name text) text)))
 
 unfoldable pub to_plain : Lexeme → Named
-to_plain l = record { ty = plain_type l.text; text = l.text; is_long = false }
+to_plain l = record { ty = plain_type l.text; text = l.text; is_long = false; argument = None }
 
 abbrev pub types_of : List Named → List Ty
 types_of [] = []
@@ -195,26 +225,27 @@ to_tuple v = record {
   ty = tuple_type v.0 v.1;
   text = codes "(" ++ (list_text (texts_of named_text v.0) ++ (comma_where v.1 ++ codes ")"));
   is_long = some_is named_is_long v.0;
+  argument = None;
 }
 
 -- [T; N], or [T]
 unfoldable pub to_array : Named × Option Lexeme → Named
-to_array (item, None) = record { ty = ty.Slice item.ty; text = codes "[" ++ (item.text ++ codes "]"); is_long = item.is_long }
-to_array (item, Some n) = record { ty = ty.Array item.ty (number_value n); text = codes "[" ++ (item.text ++ (codes "; " ++ (n.text ++ codes "]"))); is_long = item.is_long }
+to_array (item, None) = record { ty = ty.Slice item.ty; text = codes "[" ++ (item.text ++ codes "]"); is_long = item.is_long; argument = None }
+to_array (item, Some n) = record { ty = ty.Array item.ty (number_value n); text = codes "[" ++ (item.text ++ (codes "; " ++ (n.text ++ codes "]"))); is_long = item.is_long; argument = None }
 
 abbrev pub mut_where : Bool → List ℕ
 mut_where true = codes "mut "
 mut_where false = []
 
 unfoldable pub to_ref : Bool × Named → Named
-to_ref v = record { ty = ty.Ref v.0 v.1.ty; text = codes "&" ++ (mut_where v.0 ++ v.1.text); is_long = v.1.is_long }
+to_ref v = record { ty = ty.Ref v.0 v.1.ty; text = codes "&" ++ (mut_where v.0 ++ v.1.text); is_long = v.1.is_long; argument = None }
 
 abbrev pub pointer_word : Bool → List ℕ
 pointer_word true = codes "mut "
 pointer_word false = codes "const "
 
 unfoldable pub to_raw : Bool × Named → Named
-to_raw v = record { ty = ty.Raw v.0 v.1.ty; text = codes "*" ++ (pointer_word v.0 ++ v.1.text); is_long = v.1.is_long }
+to_raw v = record { ty = ty.Raw v.0 v.1.ty; text = codes "*" ++ (pointer_word v.0 ++ v.1.text); is_long = v.1.is_long; argument = None }
 
 unfoldable pub to_dyn : Named → Named
-to_dyn path = record { ty = ty.Dyn path.text; text = codes "dyn " ++ path.text; is_long = path.is_long }
+to_dyn path = record { ty = ty.Dyn path.text; text = codes "dyn " ++ path.text; is_long = path.is_long; argument = None }
