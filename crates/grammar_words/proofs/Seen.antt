@@ -4,7 +4,7 @@ use Rattle.grammar_words.specs.Grammar.{Part, Then, Made, Either, starts}
 use Rattle.grammar_words.specs.Classes.{inside, outside, Tok, bare}
 use Rattle.grammar_words.proofs.Laws.{any, ends, ends_any}
 use Rattle.grammar_words.proofs.Spelled.{Within}
-use Rattle.grammar_words.proofs.Sets.{subset, apart, subset_has, starts_subset, starts_apart, ends_subset, ends_not}
+use Rattle.grammar_words.proofs.Sets.{subset, apart, subset_has, starts_subset, starts_apart, ends_subset, ends_not, ends_none}
 use Rattle.grammar_words.proofs.Ready.{Shape, Opens, both_true}
 use Rattle.grammar_words.proofs.Fork.{Seen}
 
@@ -103,3 +103,10 @@ seen-then Q s = record { sees = λ ts rest a r n. s.sees ts r.0 a.0 r.1 (ends_an
 
 pub seen-within : {K A : Type 0} {c : K → ℕ} {b k d : List ℕ} {z : K → Bool} {v : Bool} {Q : Part K A} (R : Part K A) → Within Q R → Seen c b k d z v R → Seen c b k d z v Q
 seen-within R i s = record { sees = λ ts rest a r n. s.sees ts rest a (i ts rest a r) n }
+
+-- a token of b, and then a part that has a token, none of d
+pub behind_any : {K A : Type 0} {c : K → ℕ} {Q : Part K A} (h : Shape) (b k d set : List ℕ) → Opens c h Q → (not h.empty && fits_behind [] b d set h) ≡ true → Seen c b k d any true (Then (Tok c set) Q)
+behind_any {K} {A} {c} {Q} h b k d set o e =
+    let f = both_true _ _ e in
+    let s = seen-behind h [] b k d set o f.1 in
+    record { sees = λ ts rest a r n. s.sees ts rest a r (ends_none c rest) }

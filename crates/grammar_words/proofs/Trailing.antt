@@ -93,7 +93,7 @@ end_goes : {K A : Type 0} (c : K → ℕ) (z : K → Bool) (k : List ℕ) (R : P
 unfolding inside
 end_goes c z k R t h = (t ∷ [], ([], true), λ u e. ((t, ([], true)), refl, (u, (h, refl), inr (refl, refl))))
 
-past_opens : {K A : Type 0} (c : K → ℕ) (k : List ℕ) (R : Part K A) → Opens c (token_shape k) (Past c k R)
+pub past_opens : {K A : Type 0} (c : K → ℕ) (k : List ℕ) (R : Part K A) → Opens c (token_shape k) (Past c k R)
 past_opens c k R ts rest a h = inl (rw h.2.1.1 h.2.1.0)
 
 no-turns : {K A : Type 0} {c : K → ℕ} {m : ℕ} {g : Shape} {x : List K} {R W : Part K A} {H : List K → Part K A} {p w : Reader K A} (k : List ℕ) (t : K) → has k (c t) ≡ true → Ready c m g x R W H p w

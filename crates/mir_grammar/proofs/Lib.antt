@@ -5,3 +5,4 @@ pub mod TypeLevels
 pub mod PlaceReady
 pub mod ValueReady
 pub mod ValueFork
+pub mod BlockReady

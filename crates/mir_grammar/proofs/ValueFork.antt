@@ -40,19 +40,19 @@ pub tuple_inner_ready : {m : ℕ} {x : List Lexeme} {T U : Family} {S : List Lex
 unfolding class_of
 tuple_inner_ready {m} {x} i r = wider-ready _ (ended-ready (2 ∷ []) (sign (codes ")")) refl (trailed-ready marks (9 ∷ []) (sign (codes ",")) refl (marked_ready i r) refl) refl) refl
 
-tuple_moves : {m : ℕ} {x : List Lexeme} {T U : Family} {S : List Lexeme → Family} {t u : Readers} {R W : Part Lexeme Placed} {H : List Lexeme → Part Lexeme Placed} {p w : Reader Lexeme Placed} → AllReady m x T U S t u → PlaceKit m x R W H p w → Moves class_of (1 ∷ []) (tuple_of_at m t p)
+pub tuple_moves : {m : ℕ} {x : List Lexeme} {T U : Family} {S : List Lexeme → Family} {t u : Readers} {R W : Part Lexeme Placed} {H : List Lexeme → Part Lexeme Placed} {p w : Reader Lexeme Placed} → AllReady m x T U S t u → PlaceKit m x R W H p w → Moves class_of (1 ∷ []) (tuple_of_at m t p)
 unfolding class_of
 tuple_moves {m} {x} {T} {U} {S} {t} {u} {R} {W} {H} {p} {w} i r = (moves-made class_of (1 ∷ []) to_tuple_of _ (moves-made class_of (1 ∷ []) (λ v. v.1) _ (moves-joined class_of (1 ∷ []) (tok class_of (1 ∷ [])) (tuple_inner_at m t p) (moves-tok class_of (1 ∷ []) (1 ∷ []) refl) (left_short (tuple_inner_ready i r).laws))))
 
-operand_moves : {m : ℕ} {x : List Lexeme} {T U : Family} {S : List Lexeme → Family} {t u : Readers} {R W : Part Lexeme Placed} {H : List Lexeme → Part Lexeme Placed} {p w : Reader Lexeme Placed} → AllReady m x T U S t u → PlaceKit m x R W H p w → Moves class_of (1 ∷ []) (operand_at m t p)
+pub operand_moves : {m : ℕ} {x : List Lexeme} {T U : Family} {S : List Lexeme → Family} {t u : Readers} {R W : Part Lexeme Placed} {H : List Lexeme → Part Lexeme Placed} {p w : Reader Lexeme Placed} → AllReady m x T U S t u → PlaceKit m x R W H p w → Moves class_of (1 ∷ []) (operand_at m t p)
 unfolding operand_at
 operand_moves {m} {x} {T} {U} {S} {t} {u} {R} {W} {H} {p} {w} i r = moves-left class_of (1 ∷ []) place_firsts (made to_copy p) (marked_at m t p) refl (moves-made class_of (1 ∷ []) to_copy p r.moves)
 
-used_moves : {m : ℕ} {x : List Lexeme} {T U : Family} {S : List Lexeme → Family} {t u : Readers} {R W : Part Lexeme Placed} {H : List Lexeme → Part Lexeme Placed} {p w : Reader Lexeme Placed} → AllReady m x T U S t u → PlaceKit m x R W H p w → Moves class_of (1 ∷ []) (used_at m t p)
+pub used_moves : {m : ℕ} {x : List Lexeme} {T U : Family} {S : List Lexeme → Family} {t u : Readers} {R W : Part Lexeme Placed} {H : List Lexeme → Part Lexeme Placed} {p w : Reader Lexeme Placed} → AllReady m x T U S t u → PlaceKit m x R W H p w → Moves class_of (1 ∷ []) (used_at m t p)
 unfolding class_of
 used_moves {m} {x} {T} {U} {S} {t} {u} {R} {W} {H} {p} {w} i r = moves-made class_of (1 ∷ []) to_used _ (moves-joined class_of (1 ∷ []) (operand_at m t p) (perhaps class_of (118 ∷ []) None (cast_to_at t)) (operand_moves i r) (left_short (perhaps-ready {c = class_of} {m = m} {x = x} (118 ∷ []) None (cast_ready i) refl).laws))
 
-marked_moves : {m : ℕ} {x : List Lexeme} {T U : Family} {S : List Lexeme → Family} {t u : Readers} {R W : Part Lexeme Placed} {H : List Lexeme → Part Lexeme Placed} {p w : Reader Lexeme Placed} → AllReady m x T U S t u → PlaceKit m x R W H p w → Moves class_of (116 ∷ 120 ∷ 121 ∷ []) (marked_at m t p)
+pub marked_moves : {m : ℕ} {x : List Lexeme} {T U : Family} {S : List Lexeme → Family} {t u : Readers} {R W : Part Lexeme Placed} {H : List Lexeme → Part Lexeme Placed} {p w : Reader Lexeme Placed} → AllReady m x T U S t u → PlaceKit m x R W H p w → Moves class_of (116 ∷ 120 ∷ 121 ∷ []) (marked_at m t p)
 unfolding class_of
 marked_moves {m} {x} {T} {U} {S} {t} {u} {R} {W} {H} {p} {w} i r = moves-both class_of (116 ∷ []) (120 ∷ 121 ∷ []) (marked_at m t p)
     (moves-right class_of (116 ∷ []) (120 ∷ []) _ _ refl (moves-right class_of (116 ∷ []) (121 ∷ []) _ _ refl (moves-made class_of (116 ∷ []) to_const _ (moves-made class_of (116 ∷ []) (λ v. v.1) _ (moves-joined class_of (116 ∷ []) (tok class_of (116 ∷ [])) (constant_at m t) (moves-tok class_of (116 ∷ []) (116 ∷ []) refl) (left_short (constant_ready i).laws))))))
@@ -60,11 +60,11 @@ marked_moves {m} {x} {T} {U} {S} {t} {u} {R} {W} {H} {p} {w} i r = moves-both cl
       (moves-left class_of (120 ∷ []) (120 ∷ []) _ _ refl (moves-made class_of (120 ∷ []) to_copy _ (moves-made class_of (120 ∷ []) (λ v. v.1) _ (moves-joined class_of (120 ∷ []) (tok class_of (120 ∷ [])) p (moves-tok class_of (120 ∷ []) (120 ∷ []) refl) (left_short r.ready.laws)))))
       (moves-right class_of (121 ∷ []) (120 ∷ []) _ _ refl (moves-left class_of (121 ∷ []) (121 ∷ []) _ _ refl (moves-made class_of (121 ∷ []) to_move _ (moves-made class_of (121 ∷ []) (λ v. v.1) _ (moves-joined class_of (121 ∷ []) (tok class_of (121 ∷ [])) p (moves-tok class_of (121 ∷ []) (121 ∷ []) refl) (left_short r.ready.laws)))))))
 
-marked_operand_moves : {m : ℕ} {x : List Lexeme} {T U : Family} {S : List Lexeme → Family} {t u : Readers} {R W : Part Lexeme Placed} {H : List Lexeme → Part Lexeme Placed} {p w : Reader Lexeme Placed} → AllReady m x T U S t u → PlaceKit m x R W H p w → Moves class_of (116 ∷ 120 ∷ 121 ∷ []) (operand_at m t p)
+pub marked_operand_moves : {m : ℕ} {x : List Lexeme} {T U : Family} {S : List Lexeme → Family} {t u : Readers} {R W : Part Lexeme Placed} {H : List Lexeme → Part Lexeme Placed} {p w : Reader Lexeme Placed} → AllReady m x T U S t u → PlaceKit m x R W H p w → Moves class_of (116 ∷ 120 ∷ 121 ∷ []) (operand_at m t p)
 unfolding operand_at
 marked_operand_moves {m} {x} {T} {U} {S} {t} {u} {R} {W} {H} {p} {w} i r = moves-right class_of (116 ∷ 120 ∷ 121 ∷ []) place_firsts (made to_copy p) (marked_at m t p) refl (marked_moves i r)
 
-marked_used_moves : {m : ℕ} {x : List Lexeme} {T U : Family} {S : List Lexeme → Family} {t u : Readers} {R W : Part Lexeme Placed} {H : List Lexeme → Part Lexeme Placed} {p w : Reader Lexeme Placed} → AllReady m x T U S t u → PlaceKit m x R W H p w → Moves class_of (116 ∷ 120 ∷ 121 ∷ []) (used_at m t p)
+pub marked_used_moves : {m : ℕ} {x : List Lexeme} {T U : Family} {S : List Lexeme → Family} {t u : Readers} {R W : Part Lexeme Placed} {H : List Lexeme → Part Lexeme Placed} {p w : Reader Lexeme Placed} → AllReady m x T U S t u → PlaceKit m x R W H p w → Moves class_of (116 ∷ 120 ∷ 121 ∷ []) (used_at m t p)
 unfolding class_of
 marked_used_moves {m} {x} {T} {U} {S} {t} {u} {R} {W} {H} {p} {w} i r = moves-made class_of (116 ∷ 120 ∷ 121 ∷ []) to_used _ (moves-joined class_of (116 ∷ 120 ∷ 121 ∷ []) (operand_at m t p) (perhaps class_of (118 ∷ []) None (cast_to_at t)) (marked_operand_moves i r) (left_short (perhaps-ready {c = class_of} {m = m} {x = x} (118 ∷ []) None (cast_ready i) refl).laws))
 
@@ -87,7 +87,7 @@ pub formed_value_ready : {m : ℕ} {x : List Lexeme} {T U : Family} {S : List Le
 unfolding class_of
 formed_value_ready {m} {x} i r = wider-ready _ (either-ready operand_firsts (used_or_tuple_ready i r) (either-ready (run 124 27) (operator_ready i r) (either-ready (15 ∷ []) (reference_ready i r) (array_of_ready i r) refl) refl) refl) refl
 
-operator_moves : {m : ℕ} {x : List Lexeme} {T U : Family} {S : List Lexeme → Family} {t u : Readers} {R W : Part Lexeme Placed} {H : List Lexeme → Part Lexeme Placed} {p w : Reader Lexeme Placed} → AllReady m x T U S t u → PlaceKit m x R W H p w → Moves class_of (run 124 27) (operator_at m t p)
+pub operator_moves : {m : ℕ} {x : List Lexeme} {T U : Family} {S : List Lexeme → Family} {t u : Readers} {R W : Part Lexeme Placed} {H : List Lexeme → Part Lexeme Placed} {p w : Reader Lexeme Placed} → AllReady m x T U S t u → PlaceKit m x R W H p w → Moves class_of (run 124 27) (operator_at m t p)
 unfolding class_of
 operator_moves {m} {x} {T} {U} {S} {t} {u} {R} {W} {H} {p} {w} i r = moves-both class_of binaries (run 144 7) (operator_at m t p)
     (moves-left class_of binaries binaries (binary_at m t p) (pick (inside class_of unaries) (unary_at m t p) (pick (inside class_of measures) (measured_at p) (sized_at t))) refl (moves-made class_of binaries to_binary (joined (tok class_of binaries) (past class_of (1 ∷ []) (joined (operand_at m t p) (past class_of (9 ∷ []) (ended class_of (operand_at m t p) (2 ∷ [])))))) (moves-joined class_of binaries (tok class_of binaries) (past class_of (1 ∷ []) (joined (operand_at m t p) (past class_of (9 ∷ []) (ended class_of (operand_at m t p) (2 ∷ []))))) (moves-tok class_of binaries binaries refl) (left_short (past-ready {c = class_of} {m = m} {x = x} (1 ∷ []) (sign (codes "(")) refl (then-ready (operand_ready i r) (past-ready {c = class_of} {m = m} {x = x} (9 ∷ []) (sign (codes ",")) refl (ended-ready {c = class_of} {m = m} {x = x} (2 ∷ []) (sign (codes ")")) refl (operand_ready i r) refl) refl) refl) refl).laws))))
@@ -97,7 +97,7 @@ operator_moves {m} {x} {T} {U} {S} {t} {u} {R} {W} {H} {p} {w} i r = moves-both 
         (moves-left class_of measures measures (measured_at p) (sized_at t) refl (moves-made class_of measures to_measured (joined (tok class_of measures) (past class_of (1 ∷ []) (ended class_of p (2 ∷ [])))) (moves-joined class_of measures (tok class_of measures) (past class_of (1 ∷ []) (ended class_of p (2 ∷ []))) (moves-tok class_of measures measures refl) (left_short (past-ready {c = class_of} {m = m} {x = x} (1 ∷ []) (sign (codes "(")) refl (ended-ready {c = class_of} {m = m} {x = x} (2 ∷ []) (sign (codes ")")) refl r.ready refl) refl).laws))))
         (moves-right class_of sizes measures (measured_at p) (sized_at t) refl (moves-made class_of sizes to_sized (joined (tok class_of sizes) (past class_of (1 ∷ []) (ended class_of (t AnyType) (2 ∷ [])))) (moves-joined class_of sizes (tok class_of sizes) (past class_of (1 ∷ []) (ended class_of (t AnyType) (2 ∷ []))) (moves-tok class_of sizes sizes refl) (left_short (past-ready {c = class_of} {m = m} {x = x} (1 ∷ []) (sign (codes "(")) refl (ended-ready {c = class_of} {m = m} {x = x} (2 ∷ []) (sign (codes ")")) refl (i AnyType) refl) refl).laws))))))))
 
-formed_moves : {m : ℕ} {x : List Lexeme} {T U : Family} {S : List Lexeme → Family} {t u : Readers} {R W : Part Lexeme Placed} {H : List Lexeme → Part Lexeme Placed} {p w : Reader Lexeme Placed} → AllReady m x T U S t u → PlaceKit m x R W H p w → Moves class_of (116 ∷ 120 ∷ 121 ∷ run 124 27) (formed_value_at m t p)
+pub formed_moves : {m : ℕ} {x : List Lexeme} {T U : Family} {S : List Lexeme → Family} {t u : Readers} {R W : Part Lexeme Placed} {H : List Lexeme → Part Lexeme Placed} {p w : Reader Lexeme Placed} → AllReady m x T U S t u → PlaceKit m x R W H p w → Moves class_of (116 ∷ 120 ∷ 121 ∷ run 124 27) (formed_value_at m t p)
 unfolding used_or_tuple_at
 formed_moves {m} {x} {T} {U} {S} {t} {u} {R} {W} {H} {p} {w} i r = moves-both class_of (116 ∷ 120 ∷ 121 ∷ []) (run 124 27) (formed_value_at m t p)
     (moves-left class_of (116 ∷ 120 ∷ 121 ∷ []) operand_firsts _ _ refl (moves-fork class_of (116 ∷ 120 ∷ 121 ∷ []) operand_firsts (1 ∷ []) tuple_seconds (used_at m t p) (tuple_of_at m t p) refl refl (marked_used_moves i r)))

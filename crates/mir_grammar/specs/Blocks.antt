@@ -118,11 +118,18 @@ AssignOf T P = Made to_assign (Then P (Past class_of (14 ∷ []) (Ended class_of
 abbrev pub LocalLine : Part Lexeme Lexeme
 LocalLine = Past class_of (1 ∷ []) (Ended class_of (Ended class_of (Tok class_of locals) (2 ∷ [])) (10 ∷ []))
 
+-- PlaceMention ( place ) ;
+abbrev pub MentionPart : Part Lexeme Placed → Part Lexeme Kept
+MentionPart P = Made to_mention (Past class_of (161 ∷ []) (Past class_of (1 ∷ []) (Ended class_of (Ended class_of P (2 ∷ [])) (10 ∷ []))))
+
+-- discriminant ( place ) = number ;
+abbrev pub VariantPart : Part Lexeme Placed → Part Lexeme Kept
+VariantPart P = Made to_variant (Past class_of (147 ∷ []) (Past class_of (1 ∷ []) (Then P (Past class_of (2 ∷ []) (Past class_of (14 ∷ []) (Ended class_of (Tok class_of (35 ∷ [])) (10 ∷ [])))))))
+
 -- a statement that begins with a word
 abbrev pub WordStatement : Part Lexeme Placed → Part Lexeme Kept
 WordStatement P = Either (Made to_live (Past class_of (157 ∷ []) LocalLine)) (Either (Made to_dead (Past class_of (158 ∷ []) LocalLine)) (Either (Made to_nothing (Past class_of (159 ∷ 160 ∷ []) (Tok class_of (10 ∷ []))))
-    (Either (Made to_mention (Past class_of (161 ∷ []) (Past class_of (1 ∷ []) (Ended class_of (Ended class_of P (2 ∷ [])) (10 ∷ [])))))
-    (Made to_variant (Past class_of (147 ∷ []) (Past class_of (1 ∷ []) (Then P (Past class_of (2 ∷ []) (Past class_of (14 ∷ []) (Ended class_of (Tok class_of (35 ∷ [])) (10 ∷ [])))))))))))
+    (Either (MentionPart P) (VariantPart P))))
 
 abbrev pub StatementOf : Family → Part Lexeme Placed → Part Lexeme Kept
 StatementOf T P = Either (AssignOf T P) (WordStatement P)
@@ -175,11 +182,18 @@ abbrev pub Assert : Family → Part Lexeme Placed → Part Lexeme EndingAt
 Assert T P = Made to_assert (Past class_of (168 ∷ []) (Past class_of (1 ∷ []) (Then (Perhaps_token class_of (17 ∷ [])) (Then (OperandOf T P) (Past class_of (9 ∷ []) (Then (Tok class_of (40 ∷ []))
     (Then (Each (Past class_of (9 ∷ []) (OperandOf T P))) (Past class_of (2 ∷ []) (Arrow (NextBlock (169 ∷ [])))))))))))
 
+-- switchInt ( operand ) -> [ .. ] ;
+abbrev pub SwitchPart : Family → Part Lexeme Placed → Part Lexeme EndingAt
+SwitchPart T P = Made to_switch (Past class_of (165 ∷ []) (Past class_of (1 ∷ []) (Then (OperandOf T P) (Past class_of (2 ∷ []) (Arrow SwitchArms)))))
+
+-- drop ( place ) -> next ;
+abbrev pub DropPart : Part Lexeme Placed → Part Lexeme EndingAt
+DropPart P = Made to_drop (Past class_of (167 ∷ []) (Past class_of (1 ∷ []) (Then P (Past class_of (2 ∷ []) (Arrow (NextBlock returns))))))
+
 -- a terminator that begins with a word
 abbrev pub WordTerminator : Family → Part Lexeme Placed → Part Lexeme EndingAt
 WordTerminator T P = Either (Made to_goto (Past class_of (162 ∷ []) (Arrow LabelPart))) (Either (Made to_return (Past class_of (163 ∷ []) (Tok class_of (10 ∷ [])))) (Either (Made to_unreachable (Past class_of (164 ∷ []) (Tok class_of (10 ∷ []))))
-    (Either (Made to_switch (Past class_of (165 ∷ []) (Past class_of (1 ∷ []) (Then (OperandOf T P) (Past class_of (2 ∷ []) (Arrow SwitchArms))))))
-    (Either (Made to_drop (Past class_of (167 ∷ []) (Past class_of (1 ∷ []) (Then P (Past class_of (2 ∷ []) (Arrow (NextBlock returns))))))) (Assert T P)))))
+    (Either (SwitchPart T P) (Either (DropPart P) (Assert T P)))))
 
 -- what is called, with what, and where it goes on
 abbrev pub Called : Type 0
@@ -258,3 +272,89 @@ LinePart T P = Either (Made to_assign_line (Then P (Past class_of (14 ∷ []) (V
 
 abbrev pub CleanupLine : Family → Part Lexeme Placed → Part Lexeme Line
 CleanupLine T P = Either (Made Last Resumed) (LinePart T P)
+
+abbrev pub label_at : Reader Lexeme Label
+label_at = made to_label (tok class_of (32 ∷ []))
+
+abbrev pub edge_at : Reader Lexeme Passed
+edge_at = past class_of (170 ∷ []) (pick (inside class_of (171 ∷ 164 ∷ [])) (made no_label (tok class_of (171 ∷ 164 ∷ [])))
+    (pick (inside class_of (172 ∷ [])) (made no_label (past class_of (172 ∷ []) (past class_of (1 ∷ []) (ended class_of (tok class_of any_word) (2 ∷ [])))))
+    (pick (inside class_of (11 ∷ [])) (made edge_label (past class_of (11 ∷ []) (tok class_of (32 ∷ [])))) (made edge_label (tok class_of (32 ∷ []))))))
+
+abbrev pub bracketed_at : List ℕ → Reader Lexeme Label
+bracketed_at word = made with_edge (past class_of (3 ∷ []) (past class_of word (past class_of (11 ∷ []) (joined label_at (ended class_of (perhaps class_of (9 ∷ []) none_passed (past class_of (9 ∷ []) edge_at)) (4 ∷ []))))))
+
+abbrev pub next_at : List ℕ → Reader Lexeme Label
+next_at word = pick (inside class_of (32 ∷ [])) label_at (bracketed_at word)
+
+abbrev pub target_at : Reader Lexeme (Limited Target)
+target_at = pick (inside class_of (32 ∷ [])) (made bare_target label_at) (pick (inside class_of (3 ∷ [])) (made block_target (bracketed_at returns)) (made edge_target edge_at))
+
+abbrev pub local_line_at : Reader Lexeme Lexeme
+local_line_at = past class_of (1 ∷ []) (ended class_of (ended class_of (tok class_of locals) (2 ∷ [])) (10 ∷ []))
+
+abbrev pub mention_at : Reader Lexeme Placed → Reader Lexeme Kept
+mention_at p = made to_mention (past class_of (161 ∷ []) (past class_of (1 ∷ []) (ended class_of (ended class_of p (2 ∷ [])) (10 ∷ []))))
+
+abbrev pub variant_at : Reader Lexeme Placed → Reader Lexeme Kept
+variant_at p = made to_variant (past class_of (147 ∷ []) (past class_of (1 ∷ []) (joined p (past class_of (2 ∷ []) (past class_of (14 ∷ []) (ended class_of (tok class_of (35 ∷ [])) (10 ∷ [])))))))
+
+abbrev pub word_statement_at : Reader Lexeme Placed → Reader Lexeme Kept
+word_statement_at p = pick (inside class_of (157 ∷ [])) (made to_live (past class_of (157 ∷ []) local_line_at)) (pick (inside class_of (158 ∷ [])) (made to_dead (past class_of (158 ∷ []) local_line_at))
+    (pick (inside class_of (159 ∷ 160 ∷ [])) (made to_nothing (past class_of (159 ∷ 160 ∷ []) (tok class_of (10 ∷ [])))) (pick (inside class_of (161 ∷ [])) (mention_at p) (variant_at p))))
+
+abbrev pub arrow_at : {A : Type 0} → Reader Lexeme A → Reader Lexeme A
+arrow_at r = past class_of (20 ∷ []) (ended class_of r (10 ∷ []))
+
+abbrev pub arm_at : Reader Lexeme (Limited Arm)
+arm_at = made to_arm (joined (tok class_of (35 ∷ [])) (past class_of (11 ∷ []) (ended class_of label_at (9 ∷ []))))
+
+abbrev pub switch_arms_at : ℕ → Reader Lexeme (List (Limited Arm) × Label)
+switch_arms_at m = past class_of (3 ∷ []) (joined (many (inside class_of (35 ∷ [])) arm_at m) (past class_of (166 ∷ []) (past class_of (11 ∷ []) (ended class_of label_at (4 ∷ [])))))
+
+abbrev pub assert_at : ℕ → Readers → Reader Lexeme Placed → Reader Lexeme EndingAt
+assert_at m t p = made to_assert (past class_of (168 ∷ []) (past class_of (1 ∷ []) (joined (perhaps_token (17 ∷ [])) (joined (operand_at m t p) (past class_of (9 ∷ []) (joined (tok class_of (40 ∷ []))
+    (joined (many (inside class_of (9 ∷ [])) (past class_of (9 ∷ []) (operand_at m t p)) m) (past class_of (2 ∷ []) (arrow_at (next_at (169 ∷ [])))))))))))
+
+abbrev pub switch_at : ℕ → Readers → Reader Lexeme Placed → Reader Lexeme EndingAt
+switch_at m t p = made to_switch (past class_of (165 ∷ []) (past class_of (1 ∷ []) (joined (operand_at m t p) (past class_of (2 ∷ []) (arrow_at (switch_arms_at m))))))
+
+abbrev pub drop_at : Reader Lexeme Placed → Reader Lexeme EndingAt
+drop_at p = made to_drop (past class_of (167 ∷ []) (past class_of (1 ∷ []) (joined p (past class_of (2 ∷ []) (arrow_at (next_at returns))))))
+
+abbrev pub word_terminator_at : ℕ → Readers → Reader Lexeme Placed → Reader Lexeme EndingAt
+word_terminator_at m t p = pick (inside class_of (162 ∷ [])) (made to_goto (past class_of (162 ∷ []) (arrow_at label_at))) (pick (inside class_of (163 ∷ [])) (made to_return (past class_of (163 ∷ []) (tok class_of (10 ∷ []))))
+    (pick (inside class_of (164 ∷ [])) (made to_unreachable (past class_of (164 ∷ []) (tok class_of (10 ∷ [])))) (pick (inside class_of (165 ∷ [])) (switch_at m t p) (pick (inside class_of (167 ∷ [])) (drop_at p) (assert_at m t p)))))
+
+abbrev pub resumed_at : Reader Lexeme EndingAt
+resumed_at = pick (inside class_of (173 ∷ [])) (made to_resume (past class_of (173 ∷ []) (tok class_of (10 ∷ [])))) (made to_resume (past class_of (172 ∷ []) (past class_of (1 ∷ []) (ended class_of (ended class_of (tok class_of any_word) (2 ∷ [])) (10 ∷ [])))))
+
+abbrev pub call_end_at : Reader Lexeme (Option (Limited Target))
+call_end_at = pick (inside class_of (10 ∷ [])) (made (λ t. None) (tok class_of (10 ∷ []))) (made Some (arrow_at target_at))
+
+abbrev pub path_rest_at : ℕ → Readers → Reader Lexeme Placed → Reader Lexeme PathTail
+path_rest_at m t p = pick (inside class_of (10 ∷ [])) (made unit_tail (tok class_of (10 ∷ []))) (pick (inside class_of (5 ∷ [])) (made FieldTail (ended class_of (fields_at m t p) (10 ∷ []))) (made operand_tail (joined (operands_at m t p) call_end_at)))
+
+abbrev pub formed_line_at : ℕ → Readers → Reader Lexeme Placed → Reader Lexeme (Next Value Called)
+formed_line_at m t p = made More (ended class_of (formed_value_at m t p) (10 ∷ []))
+
+abbrev pub path_line_at : ℕ → Readers → Reader Lexeme Placed → Reader Lexeme (Next Value Called)
+path_line_at m t p = made to_path_line (joined (value_path_at m t) (path_rest_at m t p))
+
+unfoldable pub value_line_at : ℕ → Readers → Reader Lexeme Placed → Reader Lexeme (Next Value Called)
+value_line_at m t p = choose (bare class_of formed_value_firsts value_words colons) (formed_line_at m t p) (path_line_at m t p)
+
+abbrev pub statement_words : List ℕ
+statement_words = 157 ∷ 158 ∷ 159 ∷ 160 ∷ 161 ∷ 147 ∷ []
+
+abbrev pub terminator_words : List ℕ
+terminator_words = 162 ∷ 163 ∷ 164 ∷ 165 ∷ 167 ∷ 168 ∷ []
+
+abbrev pub assign_line_at : ℕ → Readers → Reader Lexeme Placed → Reader Lexeme Line
+assign_line_at m t p = made to_assign_line (joined p (past class_of (14 ∷ []) (value_line_at m t p)))
+
+unfoldable pub line_at : ℕ → Readers → Reader Lexeme Placed → Reader Lexeme Line
+line_at m t p = pick (inside class_of place_firsts) (assign_line_at m t p) (pick (inside class_of statement_words) (made More (word_statement_at p)) (made Last (word_terminator_at m t p)))
+
+unfoldable pub cleanup_line_at : ℕ → Readers → Reader Lexeme Placed → Reader Lexeme Line
+cleanup_line_at m t p = pick (inside class_of (173 ∷ 172 ∷ [])) (made Last resumed_at) (line_at m t p)
