@@ -6,3 +6,4 @@ pub mod PlaceReady
 pub mod ValueReady
 pub mod ValueFork
 pub mod BlockReady
+pub mod Lines

@@ -358,3 +358,20 @@ line_at m t p = pick (inside class_of place_firsts) (assign_line_at m t p) (pick
 
 unfoldable pub cleanup_line_at : ℕ → Readers → Reader Lexeme Placed → Reader Lexeme Line
 cleanup_line_at m t p = pick (inside class_of (173 ∷ 172 ∷ [])) (made Last resumed_at) (line_at m t p)
+
+-- The lines of a block, each by the production that it is.
+
+abbrev pub CallRest : Family → Part Lexeme Placed → Part Lexeme Called
+CallRest T P = Then (ValuePath T) (Then (Operands T P) (Arrow TargetPart))
+
+abbrev pub ValueOf : Family → Part Lexeme Placed → Part Lexeme (Next Value Called)
+ValueOf T P ts (More v) rest = Ended class_of (RvalueOf T P) (10 ∷ []) ts v rest
+ValueOf T P ts (Last c) rest = CallRest T P ts c rest
+
+abbrev pub LineOf : Family → Part Lexeme Placed → Part Lexeme Line
+LineOf T P ts (More s) rest = StatementOf T P ts s rest
+LineOf T P ts (Last t) rest = TerminatorOf T P ts t rest
+
+abbrev pub CleanupOf : Family → Part Lexeme Placed → Part Lexeme Line
+CleanupOf T P ts (More s) rest = StatementOf T P ts s rest
+CleanupOf T P ts (Last t) rest = Either (TerminatorOf T P) Resumed ts t rest
