@@ -58,12 +58,12 @@ one_word words T t k h = ((word_head t, []), refl, (k, inl (t, refl, (h, refl)),
 
 -- < bool as a >
 qualified : (e : ℕ) (t : Lexeme) (k : List Lexeme) → has (7 ∷ []) (class_of t) ≡ true
-    → TypeLevel NoType (suc (suc e)) Qualified (t ∷ bool_word ∷ word (codes "as") ∷ name ∷ sign (codes ">") ∷ k) (to_qualified (to_plain bool_word, to_path (word_head name, []))) k
+    → TypeLevel NoType (suc (suc e)) Qualified (t ∷ bool_word ∷ word (codes "as") ∷ name ∷ sign (codes ">") ∷ k) (to_qualified (t, (to_plain bool_word, to_path (word_head name, [])))) k
 unfolding class_of inside
 qualified e t k h =
     let path = to_path (word_head name, []) in
-    ((to_plain bool_word, path), refl, ((t, (to_plain bool_word, path)), refl, (_, (h, refl), (_, any_bool e (word (codes "as") ∷ name ∷ sign (codes ">") ∷ k),
-      ((word (codes "as"), path), refl, (_, (refl, refl), ((path, sign (codes ">")), refl, (_, one_word any_word (TypeLevel NoType (suc e)) name (sign (codes ">") ∷ k) refl, (refl, refl)))))))))
+    ((t, (to_plain bool_word, path)), refl, (_, (h, refl), (_, any_bool e (word (codes "as") ∷ name ∷ sign (codes ">") ∷ k),
+      ((word (codes "as"), path), refl, (_, (refl, refl), ((path, sign (codes ">")), refl, (_, one_word any_word (TypeLevel NoType (suc e)) name (sign (codes ">") ∷ k) refl, (refl, refl))))))))
 
 -- Behind each first token: what goes on to a type that is no path.
 
@@ -108,7 +108,7 @@ impl_first words T z t h = ([], to_path (impl_head t, []), λ k n. ((impl_head t
 
 angle_first : (words : List ℕ) (e : ℕ) (z : Lexeme → Bool) (t : Lexeme) → has (7 ∷ []) (class_of t) ≡ true → Goes z (FreePath words (TypeLevel NoType (suc (suc e)))) (t ∷ [])
 angle_first words e z t h =
-    let n = to_qualified (to_plain bool_word, to_path (word_head name, [])) in
+    let n = to_qualified (t, (to_plain bool_word, to_path (word_head name, []))) in
     (bool_word ∷ word (codes "as") ∷ name ∷ sign (codes ">") ∷ [], to_path (named_head n, []), λ k i. ((named_head n, []), refl, (k, inr (inr (n, refl, qualified e t k h)), refl)))
 
 word_first : (words : List ℕ) (T : Family) (z : Lexeme → Bool) (t : Lexeme) → has words (class_of t) ≡ true → Goes z (FreePath words T) (t ∷ [])
@@ -159,7 +159,7 @@ pub each_first : (e : ℕ) (z : Lexeme → Bool) (want : Want) (t : Lexeme) → 
 each_first e z AnyType t h = any_firsts e z t h
 each_first e z NotMut t h = not_mut_firsts e z t h
 each_first e z BehindMut t h = let g = colons_first (suc (suc e)) z t h in (g.0, to_mut_path g.1, λ k n. (g.1, refl, g.2 k n))
-each_first e z Qualified t h = (bool_word ∷ word (codes "as") ∷ name ∷ sign (codes ">") ∷ [], to_qualified (to_plain bool_word, to_path (word_head name, [])), λ k n. qualified (suc e) t k h)
+each_first e z Qualified t h = (bool_word ∷ word (codes "as") ∷ name ∷ sign (codes ">") ∷ [], to_qualified (t, (to_plain bool_word, to_path (word_head name, []))), λ k n. qualified (suc e) t k h)
 
 -- a token that may come first, for what is wanted
 first_of : Want → Lexeme

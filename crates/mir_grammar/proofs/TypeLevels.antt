@@ -104,7 +104,7 @@ formed_starts b T s = starts-wider formed_firsts b s
 
 head_starts : (d : ℕ) → Starts class_of (7 ∷ []) (TypeLevel NoType d Qualified)
 head_starts zero = record { first = λ ts rest a h. absurd h }
-head_starts (suc d) = starts-made to_qualified (starts-past class_of (7 ∷ []) (7 ∷ []) _ refl)
+head_starts (suc d) = starts-made to_qualified (starts-then _ (starts-tok class_of (7 ∷ []) (7 ∷ []) refl))
 
 level_starts : (d : ℕ) (want : Want) → Starts class_of (firsts_of want) (TypeLevel NoType (suc d) want)
 level_starts d AnyType = starts-either (formed_starts type_firsts (TypeLevel NoType d) refl)

@@ -102,7 +102,7 @@ path_but_mut_ready {m} {x} r = wider-ready _ (made-ready to_path (then-ready (pa
 pub qualified_ready : {m : ℕ} {x : List Lexeme} {R W : Family} {H : List Lexeme → Family} {p w : Readers} → AllReady m x R W H p w
     → Ready class_of m (limit_shape [] (7 ∷ [])) x (QualifiedHead R) (QualifiedHead W) (λ y. QualifiedHead (H y)) (qualified_at m p) (qualified_at m w)
 unfolding class_of
-qualified_ready {m} {x} r = wider-ready _ (made-ready to_qualified (past-ready (7 ∷ []) (sign (codes "<")) refl
+qualified_ready {m} {x} r = wider-ready _ (made-ready to_qualified (then-ready (tok-ready class_of m (7 ∷ []) (sign (codes "<")) refl x)
     (then-ready (r AnyType) (past-ready (118 ∷ []) (word (codes "as")) refl (ended-ready (8 ∷ []) (sign (codes ">")) refl (word_path_ready r) refl) refl) refl) refl)) refl
 
 pub keyed_path_ready : {m : ℕ} {x : List Lexeme} {R W : Family} {H : List Lexeme → Family} {p w : Readers} → AllReady m x R W H p w

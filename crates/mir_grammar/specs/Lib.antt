@@ -4,3 +4,4 @@ pub mod Types
 pub mod Places
 pub mod Values
 pub mod Blocks
+pub mod Functions

@@ -9,22 +9,23 @@ use Rattle.mir_ir.specs.declared.types.IntTy.{IntTy}
 use Rattle.mir_grammar.specs.Lexemes.{Lexeme, number_value}
 
 -- a type or a path: the type that it is, its canonical text as it stands in a longer path, whether some path in it is
--- longer than 256 bytes, and the type argument of a path that is a built-in callee with one
+-- longer than 256 bytes, the type argument of a path that is a built-in callee with one, and where a path starts in the text
 pub record Named : Type 0 where
   pub ty : Ty
   pub text : List ℕ
   pub is_long : Bool
   pub argument : Option Ty
+  pub start : ℕ
 
 -- what stands in the angle brackets of a path
 pub data Argument : Type 0 where
   TypeArgument : Named → Argument
   OtherArgument : List ℕ → Argument
 
--- what a path begins with: a word, or another text
+-- what a path begins with: a word, or another text, with where it starts
 pub data Head : Type 0 where
-  HeadWord : List ℕ → Head
-  HeadText : List ℕ → Bool → Head
+  HeadWord : List ℕ → ℕ → Head
+  HeadText : List ℕ → Bool → ℕ → Head
 
 -- how a path goes on: a word behind ::, arguments, or an impl segment behind ::
 pub data Step : Type 0 where
@@ -58,12 +59,16 @@ some_is f [] = false
 some_is f (a ∷ as_) = f a || some_is f as_
 
 abbrev pub head_text : Head → List ℕ
-head_text (HeadWord w) = w
-head_text (HeadText text long) = text
+head_text (HeadWord w start) = w
+head_text (HeadText text long start) = text
 
 abbrev pub head_is_long : Head → Bool
-head_is_long (HeadWord w) = false
-head_is_long (HeadText text long) = long
+head_is_long (HeadWord w start) = false
+head_is_long (HeadText text long start) = long
+
+abbrev pub head_start : Head → ℕ
+head_start (HeadWord w start) = start
+head_start (HeadText text long start) = start
 
 abbrev pub step_text : Step → List ℕ
 step_text (StepWord w) = codes "::" ++ w
@@ -108,8 +113,8 @@ boxed_behind (StepImpl text ∷ more) = None
 
 -- the T of Box<T> and std::boxed::Box<T>
 abbrev pub boxed_type : Head → List Step → Option Ty
-boxed_type (HeadWord w) steps = if bytes_eq (codes "Box") w then only_arguments steps else (if bytes_eq (codes "std") w then boxed_behind steps else None)
-boxed_type (HeadText text long) steps = None
+boxed_type (HeadWord w start) steps = if bytes_eq (codes "Box") w then only_arguments steps else (if bytes_eq (codes "std") w then boxed_behind steps else None)
+boxed_type (HeadText text long start) steps = None
 
 abbrev pub box_or_name : Option Ty → List ℕ → Ty
 box_or_name None text = ty.Named text
@@ -136,8 +141,8 @@ first_some (Some t) b = Some t
 
 -- the T of kani::any<T>, Box<T>::new, std::boxed::Box<T>::new, std::ptr::null<T> and std::ptr::null_mut<T>
 abbrev pub argument_of : Head → List Step → Option Ty
-argument_of (HeadText text long) steps = None
-argument_of (HeadWord w) steps =
+argument_of (HeadText text long start) steps = None
+argument_of (HeadWord w start) steps =
     if bytes_eq (codes "kani") w then words_then (codes "any" ∷ []) [] steps
     else (if bytes_eq (codes "Box") w then words_then [] (codes "new" ∷ []) steps
     else (if bytes_eq (codes "std") w then first_some (words_then (codes "boxed" ∷ codes "Box" ∷ []) (codes "new" ∷ []) steps)
@@ -152,31 +157,38 @@ to_path v = record {
   text = path_text v.0 v.1;
   is_long = is_over (path_text v.0 v.1) || (head_is_long v.0 || some_is step_is_long v.1);
   argument = argument_of v.0 v.1;
+  start = head_start v.0;
 }
 
 -- a path whose first word is this token
 unfoldable pub to_keyed_path : Lexeme × List Step → Named
-to_keyed_path v = to_path (HeadWord v.0.text, v.1)
+to_keyed_path v = to_path (HeadWord v.0.text v.0.start, v.1)
 
 -- a path whose first word is mut
 unfoldable pub to_mut_path : List Step → Named
-to_mut_path steps = to_path (HeadWord (codes "mut"), steps)
+to_mut_path steps = to_path (HeadWord (codes "mut") 0, steps)
 
 abbrev pub qualified_text : List ℕ → List ℕ → List ℕ
 qualified_text t p = codes "<" ++ (t ++ (codes " as " ++ (p ++ codes ">")))
 
 -- <T as P>
-unfoldable pub to_qualified : Named × Named → Named
-to_qualified v = record { ty = ty.Named (qualified_text v.0.text v.1.text); text = qualified_text v.0.text v.1.text; is_long = v.0.is_long || v.1.is_long; argument = None }
+unfoldable pub to_qualified : Lexeme × (Named × Named) → Named
+to_qualified v = record {
+  ty = ty.Named (qualified_text v.1.0.text v.1.1.text);
+  text = qualified_text v.1.0.text v.1.1.text;
+  is_long = v.1.0.is_long || v.1.1.is_long;
+  argument = None;
+  start = v.0.start;
+}
 
 abbrev pub named_head : Named → Head
-named_head n = HeadText n.text n.is_long
+named_head n = HeadText n.text n.is_long n.start
 
 abbrev pub word_head : Lexeme → Head
-word_head l = HeadWord l.text
+word_head l = HeadWord l.text l.start
 
 abbrev pub impl_head : Lexeme → Head
-impl_head l = HeadText l.text false
+impl_head l = HeadText l.text false l.start
 
 abbrev pub word_step : Lexeme → Step
 word_step l = StepWord l.text
@@ -197,7 +209,7 @@ plain_type text = if bytes_eq (codes "bool") text then ty.Bool else (if bytes_eq
     else (if bytes_eq (codes "!") text then ty.Never else (if bytes_eq (codes "str") text then ty.Str else int_or_name (int_of_name text) text)))
 
 unfoldable pub to_plain : Lexeme → Named
-to_plain l = record { ty = plain_type l.text; text = l.text; is_long = false; argument = None }
+to_plain l = record { ty = plain_type l.text; text = l.text; is_long = false; argument = None; start = l.start }
 
 abbrev pub types_of : List Named → List Ty
 types_of [] = []
@@ -226,26 +238,27 @@ to_tuple v = record {
   text = codes "(" ++ (list_text (texts_of named_text v.0) ++ (comma_where v.1 ++ codes ")"));
   is_long = some_is named_is_long v.0;
   argument = None;
+  start = 0;
 }
 
 -- [T; N], or [T]
 unfoldable pub to_array : Named × Option Lexeme → Named
-to_array (item, None) = record { ty = ty.Slice item.ty; text = codes "[" ++ (item.text ++ codes "]"); is_long = item.is_long; argument = None }
-to_array (item, Some n) = record { ty = ty.Array item.ty (number_value n); text = codes "[" ++ (item.text ++ (codes "; " ++ (n.text ++ codes "]"))); is_long = item.is_long; argument = None }
+to_array (item, None) = record { ty = ty.Slice item.ty; text = codes "[" ++ (item.text ++ codes "]"); is_long = item.is_long; argument = None; start = 0 }
+to_array (item, Some n) = record { ty = ty.Array item.ty (number_value n); text = codes "[" ++ (item.text ++ (codes "; " ++ (n.text ++ codes "]"))); is_long = item.is_long; argument = None; start = 0 }
 
 abbrev pub mut_where : Bool → List ℕ
 mut_where true = codes "mut "
 mut_where false = []
 
 unfoldable pub to_ref : Bool × Named → Named
-to_ref v = record { ty = ty.Ref v.0 v.1.ty; text = codes "&" ++ (mut_where v.0 ++ v.1.text); is_long = v.1.is_long; argument = None }
+to_ref v = record { ty = ty.Ref v.0 v.1.ty; text = codes "&" ++ (mut_where v.0 ++ v.1.text); is_long = v.1.is_long; argument = None; start = 0 }
 
 abbrev pub pointer_word : Bool → List ℕ
 pointer_word true = codes "mut "
 pointer_word false = codes "const "
 
 unfoldable pub to_raw : Bool × Named → Named
-to_raw v = record { ty = ty.Raw v.0 v.1.ty; text = codes "*" ++ (pointer_word v.0 ++ v.1.text); is_long = v.1.is_long; argument = None }
+to_raw v = record { ty = ty.Raw v.0 v.1.ty; text = codes "*" ++ (pointer_word v.0 ++ v.1.text); is_long = v.1.is_long; argument = None; start = 0 }
 
 unfoldable pub to_dyn : Named → Named
-to_dyn path = record { ty = ty.Dyn path.text; text = codes "dyn " ++ path.text; is_long = path.is_long; argument = None }
+to_dyn path = record { ty = ty.Dyn path.text; text = codes "dyn " ++ path.text; is_long = path.is_long; argument = None; start = 0 }

@@ -90,7 +90,7 @@ abbrev pub PathFrom : List ℕ → List ℕ → Family → Part Lexeme Named
 PathFrom keys words T = Either (KeyedPath keys T) (FreePath words T)
 
 abbrev pub QualifiedHead : Family → Part Lexeme Named
-QualifiedHead T = Made to_qualified (Past class_of (7 ∷ []) (Then (T AnyType) (Past class_of (118 ∷ []) (Ended class_of (FreePath any_word T) (8 ∷ [])))))
+QualifiedHead T = Made to_qualified (Then (Tok class_of (7 ∷ [])) (Then (T AnyType) (Past class_of (118 ∷ []) (Ended class_of (FreePath any_word T) (8 ∷ [])))))
 
 abbrev pub PlainType : Part Lexeme Named
 PlainType = Made to_plain (Tok class_of (17 ∷ type_names))
@@ -197,7 +197,7 @@ abbrev pub path_from_at : ℕ → List ℕ → List ℕ → Readers → Reader L
 path_from_at m keys words t = pick (inside class_of keys) (keyed_path_at m keys t) (free_path_at m words t)
 
 abbrev pub qualified_at : ℕ → Readers → Reader Lexeme Named
-qualified_at m t = made to_qualified (past class_of (7 ∷ []) (joined (t AnyType) (past class_of (118 ∷ []) (ended class_of (free_path_at m any_word t) (8 ∷ [])))))
+qualified_at m t = made to_qualified (joined (tok class_of (7 ∷ [])) (joined (t AnyType) (past class_of (118 ∷ []) (ended class_of (free_path_at m any_word t) (8 ∷ [])))))
 
 abbrev pub plain_at : Reader Lexeme Named
 plain_at = made to_plain (tok class_of (17 ∷ type_names))
