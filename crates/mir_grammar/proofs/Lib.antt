@@ -7,3 +7,4 @@ pub mod ValueReady
 pub mod ValueFork
 pub mod BlockReady
 pub mod Lines
+pub mod FunctionReady

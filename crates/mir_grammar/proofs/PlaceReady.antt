@@ -45,7 +45,7 @@ unfolding class_of
 index_inside_ready m x = wider-ready _ (either-ready locals (made-ready to_index (tok-ready class_of m locals local refl x))
     (either-ready (35 ∷ []) (made-ready to_front (number_of_ready m x)) (made-ready to_back (past-ready (19 ∷ []) (sign (codes "-")) refl (number_of_ready m x) refl)) refl) refl) refl
 
-index_ready : (m : ℕ) (x : List Lexeme) → Ready class_of m (flat (3 ∷ [])) x Index Index (λ y. Index) index_at index_at
+pub index_ready : (m : ℕ) (x : List Lexeme) → Ready class_of m (flat (3 ∷ [])) x Index Index (λ y. Index) index_at index_at
 unfolding class_of
 index_ready m x = wider-ready _ (past-ready (3 ∷ []) (sign (codes "[")) refl (ended-ready (4 ∷ []) (sign (codes "]")) refl (index_inside_ready m x) refl) refl) refl
 
@@ -55,7 +55,7 @@ unfolding class_of
 selector_ready {m} {x} r = wider-ready _ (either-ready (13 ∷ []) (made-ready to_field (past-ready (13 ∷ []) (sign (codes ".")) refl (then-ready (number-ready m x) (past-ready (11 ∷ []) (sign (codes ":")) refl r refl) refl) refl))
     (made-ready to_downcast (past-ready (118 ∷ []) (word (codes "as")) refl (tok-ready class_of m any_word name refl x) refl)) refl) refl
 
-in_parentheses_ready : {m : ℕ} {x : List Lexeme} {T U : Part Lexeme Named} {S : List Lexeme → Part Lexeme Named} {t u : Reader Lexeme Named} {R W : Part Lexeme Placed} {H : List Lexeme → Part Lexeme Placed} {p w : Reader Lexeme Placed}
+pub in_parentheses_ready : {m : ℕ} {x : List Lexeme} {T U : Part Lexeme Named} {S : List Lexeme → Part Lexeme Named} {t u : Reader Lexeme Named} {R W : Part Lexeme Placed} {H : List Lexeme → Part Lexeme Placed} {p w : Reader Lexeme Placed}
     → TypeReady m x T U S t u → PlaceReady m x R W H p w
     → Ready class_of m (limit_shape (12 ∷ 7 ∷ 18 ∷ 3 ∷ []) (16 ∷ place_firsts)) x (InParentheses T R) (InParentheses U W) (λ y. InParentheses (S y) (H y)) (in_parentheses_at t p) (in_parentheses_at u w)
 unfolding class_of
@@ -67,7 +67,7 @@ unfolding class_of
 base_ready {m} {x} i r = wider-ready _ (either-ready locals (made-ready to_local_place (tok-ready class_of m locals local refl x))
     (past-ready (1 ∷ []) (sign (codes "(")) refl (ended-ready (2 ∷ []) (sign (codes ")")) refl (in_parentheses_ready i r) refl) refl) refl) refl
 
-place_body_ready : {m : ℕ} {x : List Lexeme} {T U : Part Lexeme Named} {S : List Lexeme → Part Lexeme Named} {t u : Reader Lexeme Named} {R W : Part Lexeme Placed} {H : List Lexeme → Part Lexeme Placed} {p w : Reader Lexeme Placed}
+pub place_body_ready : {m : ℕ} {x : List Lexeme} {T U : Part Lexeme Named} {S : List Lexeme → Part Lexeme Named} {t u : Reader Lexeme Named} {R W : Part Lexeme Placed} {H : List Lexeme → Part Lexeme Placed} {p w : Reader Lexeme Placed}
     → TypeReady m x T U S t u → PlaceReady m x R W H p w → Ready class_of m (near (3 ∷ []) place_firsts) x (PlaceBody T R) (PlaceBody U W) (λ y. PlaceBody (S y) (H y)) (place_body m t p) (place_body m u w)
 unfolding place_body
 place_body_ready {m} {x} i r = wider-ready _ (made-ready to_place (then-ready (base_ready i r) (many-ready (3 ∷ []) (index_ready m x) refl) refl)) refl

@@ -132,3 +132,8 @@ type_ready m x zero (suc (suc (suc e))) h k = limit-ready (stops_of k) (firsts_o
     (λ t i. each_first e (outside class_of (stops_of k)) k t (inside_firsts k t i)) (each_sentence e (outside class_of (stops_of k)) k) (starts-opens (stops_of k) (level_starts (suc (suc e)) k))
 type_ready m x (suc d) zero h k = absurd (omega arith)
 type_ready m x (suc d) (suc e) h k = guard_body m x (TypeLevel NoType d) (TypeLevel NoType e) (λ y. TypeLevel (Hole x y) d) (type_at m d) (type_at m e) k (body_ready (type_ready m x d e (omega arith)) k)
+
+-- above the last level a type has a text within the limit
+pub near_type_ready : (m : ℕ) (x : List Lexeme) (d e : ℕ) → d + 4 ≤ e
+    → Ready class_of m (close AnyType) x (TypeLevel NoType (suc d) AnyType) (TypeLevel NoType (suc e) AnyType) (λ y. TypeLevel (Hole x y) (suc d) AnyType) (type_at m (suc d) AnyType) (type_at m (suc e) AnyType)
+near_type_ready m x d e h = guard-ready type_firsts (any_ready (type_ready m x d e h)) refl
