@@ -21,7 +21,7 @@ use Rattle.mir_grammar.specs.Types.{Family, Readers, AnyType, NoType, TypeLevel,
 use Rattle.mir_grammar.specs.Places.{Placed, PlaceBody, PlaceLevel, place_at, place_firsts, locals, to_place, to_local_place, place_body, Index, in_parentheses_at, InParentheses}
 use Rattle.mir_grammar.specs.Values.{operand_firsts, tuple_seconds}
 use Rattle.mir_grammar.specs.Blocks.{Kept, EndingAt, Body, CleanupBody, LinePart, CleanupLine, line_at, cleanup_line_at, WordTerminator, to_return, statement_words, terminator_words}
-use Rattle.mir_grammar.specs.Functions.{any_token, debug_tokens, scope_tokens, to_declared, one_item, no_items, concat, to_items, Items, DeclaredPart, Let, Debug, ItemPart, ScopeName, inner_items, Scope, ScopeLevel, to_block, kept_body, cleanup_body, Braces, BlockPart, to_function, Parameters, Inside, FunctionPart, Text, TypeHole, HoledText, declared_at, let_at, debug_at, item_at, item_words, items_at, scope_name_at, scope_body, scope_at, braces_at, block_at, parameters_at, inside_at, function_at, text_at, answer, EachAnswerIsRight}
+use Rattle.mir_grammar.specs.Functions.{any_token, debug_tokens, scope_tokens, to_declared, one_item, no_items, concat, to_items, Items, DeclaredPart, Let, Debug, ItemPart, ScopeName, inner_items, Scope, ScopeLevel, to_block, kept_body, cleanup_body, Braces, BlockPart, to_function, Parameters, Inside, FunctionPart, Text, TypeHole, HoledText, declared_at, let_at, debug_at, item_at, item_words, items_at, scope_name_at, scope_body, scope_at, braces_at, block_at, parameters_at, inside_at, function_at, text_at, answer, EachAnswerIsRight, TypeText, PathText, PlaceText, type_answer, path_answer, place_answer, EachTypeIsRight, EachPathIsRight, EachPlaceIsRight}
 use Rattle.mir_grammar.proofs.Samples.{name, plain_number, plain_number_class}
 use Rattle.mir_grammar.proofs.TypeReady.{near, far, AllReady, word_path_ready}
 use Rattle.mir_grammar.proofs.TypeLevels.{Hole, close, type_ready, near_type_ready}
@@ -178,3 +178,25 @@ text_ready m x d e h =
 pub each_answer_is_right : EachAnswerIsRight
 unfolding answer
 each_answer_is_right d ts = right (levels (text_ready (length ts + 1))) d ts (omega arith)
+
+-- Types, paths and places alone.
+
+path_text_ready : (m : ℕ) (x : List Lexeme) (d e : ℕ) → d + 4 ≤ e
+    → Ready class_of m (near (12 ∷ 7 ∷ []) (43 ∷ 7 ∷ any_word)) x (PathText d) (PathText e) (λ y. FreePath any_word (TypeLevel (TypeHole x y) (suc d))) (free_path_at m any_word (type_at m (suc d))) (free_path_at m any_word (type_at m (suc e)))
+path_text_ready m x d e h = word_path_ready (type_ready m x (suc d) (suc e) (omega arith))
+
+place_text_ready : (m : ℕ) (x : List Lexeme) (d e : ℕ) → d + 4 ≤ e
+    → Ready class_of m (near (3 ∷ []) place_firsts) x (PlaceText d) (PlaceText e) (λ y. PlaceLevel (PlaceHole x y) (TypeLevel (TypeHole x y) (suc d) AnyType) (suc d)) (place_at m (type_at m (suc d) AnyType) (suc d)) (place_at m (type_at m (suc e) AnyType) (suc e))
+place_text_ready m x d e h = (place_kit (type_ready m x (suc d) (suc e) (omega arith) AnyType) d e h).ready
+
+pub each_type_is_right : EachTypeIsRight
+unfolding type_answer
+each_type_is_right d ts = right (levels (near_type_ready (length ts + 1))) d ts (omega arith)
+
+pub each_path_is_right : EachPathIsRight
+unfolding path_answer
+each_path_is_right d ts = right (levels (path_text_ready (length ts + 1))) d ts (omega arith)
+
+pub each_place_is_right : EachPlaceIsRight
+unfolding place_answer
+each_place_is_right d ts = right (levels (place_text_ready (length ts + 1))) d ts (omega arith)

@@ -8,3 +8,4 @@ pub mod ValueFork
 pub mod BlockReady
 pub mod Lines
 pub mod FunctionReady
+mod Examples

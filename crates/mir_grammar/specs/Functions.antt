@@ -200,3 +200,32 @@ answer d ts = whole (text_at (length ts + 1) d ts)
 -- each answer is right
 abbrev pub EachAnswerIsRight : Type 0
 EachAnswerIsRight = (d : ℕ) (ts : List Lexeme) → IsRight Text HoledText d ts (answer d ts)
+
+-- Types, paths and places alone.
+
+abbrev pub TypeText : ℕ → Part Lexeme Named
+TypeText d = TypeLevel NoType (suc d) AnyType
+
+abbrev pub PathText : ℕ → Part Lexeme Named
+PathText d = FreePath any_word (TypeLevel NoType (suc d))
+
+abbrev pub PlaceText : ℕ → Part Lexeme Placed
+PlaceText d = PlaceLevel Never (TypeLevel NoType (suc d) AnyType) (suc d)
+
+unfoldable pub type_answer : ℕ → List Lexeme → Outcome Lexeme Named
+type_answer d ts = whole (type_at (length ts + 1) (suc d) AnyType ts)
+
+unfoldable pub path_answer : ℕ → List Lexeme → Outcome Lexeme Named
+path_answer d ts = whole (free_path_at (length ts + 1) any_word (type_at (length ts + 1) (suc d)) ts)
+
+unfoldable pub place_answer : ℕ → List Lexeme → Outcome Lexeme Placed
+place_answer d ts = whole (place_at (length ts + 1) (type_at (length ts + 1) (suc d) AnyType) (suc d) ts)
+
+abbrev pub EachTypeIsRight : Type 0
+EachTypeIsRight = (d : ℕ) (ts : List Lexeme) → IsRight TypeText (λ e x y. TypeLevel (TypeHole x y) (suc e) AnyType) d ts (type_answer d ts)
+
+abbrev pub EachPathIsRight : Type 0
+EachPathIsRight = (d : ℕ) (ts : List Lexeme) → IsRight PathText (λ e x y. FreePath any_word (TypeLevel (TypeHole x y) (suc e))) d ts (path_answer d ts)
+
+abbrev pub EachPlaceIsRight : Type 0
+EachPlaceIsRight = (d : ℕ) (ts : List Lexeme) → IsRight PlaceText (λ e x y. PlaceLevel (At (inside class_of place_firsts) x y) (TypeLevel (TypeHole x y) (suc e) AnyType) (suc e)) d ts (place_answer d ts)
