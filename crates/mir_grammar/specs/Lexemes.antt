@@ -1,13 +1,12 @@
 -- Tokens as the grammar sees them, and their classes.
-use Rattle.std.specs.Prelude.{ℕ, zero, suc, ◌+◌, ◌-◌, ◌*◌, ◌^◌, Bool, true, false, ◌&&◌, ◌||◌, not, ◌==◌, nat_lt, nat_le, if◌then◌else◌, List, [], ◌∷◌, length, take, drop, codes, Option, Some, None}
-use Rattle.std.specs.List.{list_all, prefix_len}
+use Rattle.std.specs.Prelude.{ℕ, zero, suc, ◌+◌, ◌-◌, ◌^◌, Bool, true, false, ◌&&◌, ◌||◌, ◌==◌, nat_lt, nat_le, if◌then◌else◌, List, [], ◌∷◌, drop, codes, Option, Some, None}
 use Rattle.std.specs.Str.{bytes_eq}
 use Rattle.mir_ir.specs.declared.types.IntTy.{IntTy}
 use Rattle.mir_ir.specs.Integers.{width_of, is_signed}
 use Rattle.mir_ir.specs.Names.{int_of_name}
 use Rattle.mir_lex.specs.declared.token.TokenKind.{TokenKind}
 use Rattle.mir_lex.specs.declared.token.TokenKind.TheVariants as kind
-use Rattle.mir_lex.specs.Bytes.{is_digit, value_from, number_within}
+use Rattle.mir_lex.specs.Views.{is_local, is_label, decimal, digits_of, suffix_of, between, character_value}
 
 -- a token by what it is, its bytes as they are written, and where they start in the text
 pub record Lexeme : Type 0 where
@@ -16,38 +15,6 @@ pub record Lexeme : Type 0 where
   pub start : ℕ
 
 -- Numbers in tokens.
-
--- decimal digits without a leading zero
-abbrev pub is_index : List ℕ → Bool
-is_index [] = false
-is_index (d ∷ []) = is_digit d
-is_index (d ∷ e ∷ ds) = not (d == 48) && list_all is_digit (d ∷ e ∷ ds)
-
--- _ and such digits
-abbrev pub is_local : List ℕ → Bool
-is_local [] = false
-is_local (a ∷ digits) = a == 95 && is_index digits
-
--- bb and such digits
-abbrev pub is_label : List ℕ → Bool
-is_label [] = false
-is_label (a ∷ []) = false
-is_label (a ∷ b ∷ digits) = a == 98 && (b == 98 && is_index digits)
-
-abbrev pub decimal : List ℕ → ℕ
-decimal digits = value_from 10 0 digits
-
--- the digits of a number
-abbrev pub digits_of : List ℕ → List ℕ
-digits_of text = take (prefix_len is_digit text) text
-
--- what stands behind the _ of a number
-abbrev pub suffix_of : List ℕ → List ℕ
-suffix_of text = drop (prefix_len is_digit text + 1) text
-
--- what stands between the first and the last byte
-abbrev pub between : List ℕ → List ℕ
-between text = take (length text - 2) (drop 1 text)
 
 unfoldable pub local_number : Lexeme → ℕ
 local_number l = decimal (drop 1 l.text)
@@ -67,33 +34,9 @@ number_type l = int_of_name (suffix_of l.text)
 unfoldable pub text_body : Lexeme → List ℕ
 text_body l = between l.text
 
--- What a character means.
-
--- what a backslash and one byte mean
-abbrev pub escaped : ℕ → ℕ
-escaped b = if b == 110 then 10 else (if b == 114 then 13 else (if b == 116 then 9 else (if b == 48 then 0 else b)))
-
--- the number of a UTF-8 sequence
-abbrev pub scalar_value : List ℕ → ℕ
-scalar_value [] = 0
-scalar_value (a ∷ []) = a
-scalar_value (a ∷ b ∷ []) = 64 * (a - 192) + (b - 128)
-scalar_value (a ∷ b ∷ c ∷ []) = 4096 * (a - 224) + (64 * (b - 128) + (c - 128))
-scalar_value (a ∷ b ∷ c ∷ d ∷ more) = 262144 * (a - 240) + (4096 * (b - 128) + (64 * (c - 128) + (d - 128)))
-
-abbrev pub or_zero : Option ℕ → ℕ
-or_zero None = 0
-or_zero (Some n) = n
-
--- what stands between the quotes of a character: a sequence, a backslash with one byte, or \u{h}
-abbrev pub quoted_value : List ℕ → ℕ
-quoted_value [] = 0
-quoted_value (a ∷ []) = a
-quoted_value (a ∷ b ∷ []) = if a == 92 then escaped b else scalar_value (a ∷ b ∷ [])
-quoted_value (a ∷ b ∷ c ∷ rest) = if a == 92 then or_zero (number_within 16 1114111 (take (length rest - 1) rest)) else scalar_value (a ∷ b ∷ c ∷ rest)
-
+-- the number of a character
 unfoldable pub char_value : Lexeme → ℕ
-char_value l = quoted_value (between l.text)
+char_value l = character_value l.text
 
 -- n is a number of the type, and so is -n
 abbrev pub fits_plus : IntTy → ℕ → Bool

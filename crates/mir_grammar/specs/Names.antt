@@ -7,31 +7,13 @@ use Rattle.mir_ir.specs.declared.types.Ty.TheVariants as ty
 use Rattle.mir_ir.specs.Names.{int_of_name}
 use Rattle.mir_ir.specs.declared.types.IntTy.{IntTy}
 use Rattle.mir_grammar.specs.Lexemes.{Lexeme, number_value}
-
--- a type or a path: the type that it is, its canonical text as it stands in a longer path, whether some path in it is
--- longer than 256 bytes, the type argument of a path that is a built-in callee with one, and where a path starts in the text
-pub record Named : Type 0 where
-  pub ty : Ty
-  pub text : List ℕ
-  pub is_long : Bool
-  pub argument : Option Ty
-  pub start : ℕ
-
--- what stands in the angle brackets of a path
-pub data Argument : Type 0 where
-  TypeArgument : Named → Argument
-  OtherArgument : List ℕ → Argument
-
--- what a path begins with: a word, or another text, with where it starts
-pub data Head : Type 0 where
-  HeadWord : List ℕ → ℕ → Head
-  HeadText : List ℕ → Bool → ℕ → Head
-
--- how a path goes on: a word behind ::, arguments, or an impl segment behind ::
-pub data Step : Type 0 where
-  StepWord : List ℕ → Step
-  StepArguments : List Argument → Step
-  StepImpl : List ℕ → Step
+pub use Rattle.mir_grammar.specs.declared.named.Named.{Named}
+pub use Rattle.mir_grammar.specs.declared.named.Argument.{Argument}
+pub use Rattle.mir_grammar.specs.declared.named.Argument.TheVariants.{TypeArgument, OtherArgument}
+pub use Rattle.mir_grammar.specs.declared.named.Head.{Head}
+pub use Rattle.mir_grammar.specs.declared.named.Head.TheVariants.{HeadWord, HeadText}
+pub use Rattle.mir_grammar.specs.declared.named.Step.{Step}
+pub use Rattle.mir_grammar.specs.declared.named.Step.TheVariants.{StepWord, StepArguments, StepImpl}
 
 abbrev pub argument_text : Argument → List ℕ
 argument_text (TypeArgument n) = n.text

@@ -2,5 +2,7 @@
 #![tactic(auto)]
 
 mod laws;
+mod named;
 
 pub use laws::{each_answer_is_right, each_path_is_right, each_place_is_right, each_type_is_right};
+pub use named::{Argument, Head, Named, Step};

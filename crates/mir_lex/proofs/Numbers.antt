@@ -1,9 +1,9 @@
 -- Numbers that digits write behind others.
-use Rattle.std.proofs.Common.{◌≡◌, ℕ, ◌+◌, ◌*◌, ◌^◌, ◌<◌, ◌≤◌, Bool, true, false, nat_le, if◌then◌else◌, List, [], ◌∷◌, length, get_or, Option, Some, None, option_map, refl, sym, ap, subst, arith, mul_comm}
+use Rattle.std.proofs.Common.{◌≡◌, ℕ, ◌+◌, ◌*◌, ◌^◌, ◌<◌, ◌≤◌, Bool, true, false, nat_le, if◌then◌else◌, List, [], ◌∷◌, length, get_or, Option, Some, None, refl, sym, subst, arith, mul_comm}
 use Rattle.std.specs.Option.{MatchOption}
 use Rattle.std.proofs.lemmas.Bool.{lt-leb, le-leb}
 use Rattle.mir_lex.specs.Bytes.{digit_value, value_from, number_within}
-use Rattle.mir_lex.specs.Views.{is_bare_number, bare_number, capped}
+use Rattle.mir_lex.specs.Views.{capped}
 
 grown : (base n d : ℕ) → 0 < base → n ≤ base * n + d
 grown base n d h = grind arith
@@ -53,11 +53,8 @@ capped_at : (digits : List ℕ) (o : Option ℕ) → o ≡ number_within 10 4095
 unfolding number_within
 capped_at digits o e = within_cases (nat_le (value_from 10 0 digits) 4095) (value_from 10 0 digits) o refl e
 
-bare_is : (digits : List ℕ) (n : ℕ) → is_bare_number digits ≡ true → n ≡ capped (value_from 10 0 digits) → Some n ≡ option_map capped (bare_number digits)
-bare_is digits n b e = rw b (ap Some e)
+pub capped_past : (digits : List ℕ) (o : Option ℕ) → o ≡ number_within 10 4095 digits → o ≡ None → 4096 ≡ capped (value_from 10 0 digits)
+capped_past digits o e h = subst (λ r. MatchOption r (4096 ≡ capped (value_from 10 0 digits)) (λ n. n ≡ capped (value_from 10 0 digits))) h (capped_at digits o e)
 
-pub bare_past : (digits : List ℕ) (o : Option ℕ) → is_bare_number digits ≡ true → o ≡ number_within 10 4095 digits → o ≡ None → Some 4096 ≡ option_map capped (bare_number digits)
-bare_past digits o b e h = bare_is digits 4096 b (subst (λ r. MatchOption r (4096 ≡ capped (value_from 10 0 digits)) (λ n. n ≡ capped (value_from 10 0 digits))) h (capped_at digits o e))
-
-pub bare_some : (digits : List ℕ) (o : Option ℕ) (n : ℕ) → is_bare_number digits ≡ true → o ≡ number_within 10 4095 digits → o ≡ Some n → Some n ≡ option_map capped (bare_number digits)
-bare_some digits o n b e h = bare_is digits n b (subst (λ r. MatchOption r (4096 ≡ capped (value_from 10 0 digits)) (λ n. n ≡ capped (value_from 10 0 digits))) h (capped_at digits o e))
+pub capped_some : (digits : List ℕ) (o : Option ℕ) (n : ℕ) → o ≡ number_within 10 4095 digits → o ≡ Some n → n ≡ capped (value_from 10 0 digits)
+capped_some digits o n e h = subst (λ r. MatchOption r (4096 ≡ capped (value_from 10 0 digits)) (λ n. n ≡ capped (value_from 10 0 digits))) h (capped_at digits o e)

@@ -15,9 +15,11 @@ mod seen;
 mod token;
 
 pub use agreement::one_lexing;
+pub use digits::number_within;
 pub use fault::{FaultKind, LexFault};
 pub use lexer::{MAX_TEXT, tokens};
 pub use place_in_text::text_place;
+pub use seen::{between, capped_number, character_value, digits_of, is_label, is_local, suffix_of};
 pub use token::{Token, TokenKind};
 
 #[cfg(test)]
