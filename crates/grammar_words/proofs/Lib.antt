@@ -1,0 +1,22 @@
+pub mod Laws
+pub mod Spelled
+pub mod Made
+pub mod Join
+pub mod Pick
+pub mod Limit
+pub mod Sets
+pub mod Many
+pub mod Until
+pub mod Whole
+pub mod Ready
+pub mod ReadyJoin
+pub mod ReadyMany
+pub mod ReadyUntil
+pub mod ReadyLimit
+pub mod Fork
+pub mod Seen
+pub mod ReadyWords
+pub mod Trailing
+pub mod Turns
+pub mod Starts
+mod Example

@@ -1,0 +1,5 @@
+use Rattle.mir_grammar.proofs.FunctionReady
+use Rattle.mir_grammar.proofs.laws.each_place_is_right.Goals as goal
+
+pub returns : goal.returns
+returns c = FunctionReady.each_place_is_right

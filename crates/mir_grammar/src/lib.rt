@@ -1,0 +1,8 @@
+//! The grammar of the MIR text, over the tokens of `mir_lex`: its productions with the trees that they mean.
+#![tactic(auto)]
+
+mod laws;
+mod named;
+
+pub use laws::{each_answer_is_right, each_path_is_right, each_place_is_right, each_type_is_right};
+pub use named::{Argument, Head, Named, Step};

@@ -1,0 +1,16 @@
+pub mod Agreeing
+pub mod Answering
+pub mod Bounds
+pub mod FaultLaws
+pub mod FoundLaws
+pub mod LexLaws
+pub mod LexSteps
+pub mod NumberLaws
+pub mod Numbers
+pub mod PlaceSteps
+pub mod QuotedLaws
+pub mod Runs
+pub mod Skipping
+pub mod TextLaws
+pub mod TokenLaws
+pub mod WordLaws

@@ -1,0 +1,26 @@
+//! The tokens of a text: each a slice of it, in order, or the earliest fault of a text that has none
+//! (`specs/Tokens.antt`).
+#![tactic(auto)]
+
+mod agreement;
+mod bytes;
+mod character;
+mod digits;
+mod fault;
+mod front;
+mod lexer;
+mod place_in_text;
+mod quoted;
+mod seen;
+mod token;
+
+pub use agreement::one_lexing;
+pub use digits::number_within;
+pub use fault::{FaultKind, LexFault};
+pub use lexer::{MAX_TEXT, tokens};
+pub use place_in_text::text_place;
+pub use seen::{between, capped_number, character_value, digits_of, is_label, is_local, suffix_of};
+pub use token::{Token, TokenKind};
+
+#[cfg(test)]
+mod tests;
