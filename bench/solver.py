@@ -34,7 +34,7 @@ def clause_list(words):
 
 
 def measured(command, path):
-    """The processor time and the most memory of one run, and what it wrote."""
+    """The processor time of one run, and what it wrote."""
     with open(path) as text, tempfile.TemporaryFile() as out, tempfile.TemporaryFile() as errors:
         child = subprocess.Popen(command, stdin=text, stdout=out, stderr=errors)
         _, status, usage = os.wait4(child.pid, 0)
@@ -42,7 +42,7 @@ def measured(command, path):
         out.seek(0)
         errors.seek(0)
         written = out.read().decode() + errors.read().decode()
-        return usage.ru_utime + usage.ru_stime, usage.ru_maxrss / 1024, written
+        return usage.ru_utime + usage.ru_stime, written
 
 
 def best(command, path):
@@ -58,22 +58,22 @@ def microseconds(text, name):
 def measure(words, peer, folder):
     path = pathlib.Path(folder) / "list.cnf"
     path.write_text(clause_list(words))
-    own, memory, text = best([PROGRAM], path)
+    own, text = best([PROGRAM], path)
     accept = microseconds(text, "accept")
     checked = f"{accept:.1f} ms" if accept is not None else "-"
-    line = f"| {' '.join(words)} | {own * 1000:.1f} ms | {checked} | {memory:.0f} MB |"
+    line = f"| {' '.join(words)} | {own * 1000:.1f} ms | {checked} |"
     if not peer:
         print(line)
         return None
-    other, _, _ = best([peer, "-no-pre", "-verb=0", path, "/dev/null"], path)
+    other, _ = best([peer, "-no-pre", "-verb=0", path, "/dev/null"], path)
     print(f"{line} {other * 1000:.1f} ms | {own / other:.2f} |")
     return own / other
 
 
 def table():
     peer = shutil.which("minisat")
-    print("| Clauses | `dimacs_solve` | of it `accept` | memory |" + (" `minisat -no-pre` | ratio |" if peer else ""))
-    print("|---|---|---|---|" + ("---|---|" if peer else ""))
+    print("| Clauses | `dimacs_solve` | of it `accept` |" + (" `minisat -no-pre` | ratio |" if peer else ""))
+    print("|---|---|---|" + ("---|---|" if peer else ""))
     with tempfile.TemporaryDirectory() as folder:
         ratios = [measure(words, peer, folder) for words in LISTS]
     if peer:
@@ -110,7 +110,7 @@ def check_random():
             path = pathlib.Path(folder) / "list.cnf"
             path.write_text(text)
             clauses = [[int(word) for word in line.split()[:-1]] for line in text.splitlines()[1:]]
-            _, _, written = measured([PROGRAM], path)
+            _, written = measured([PROGRAM], path)
             answer = "s SATISFIABLE" in written
             if answer:
                 values = [line.split()[2] == "true" for line in written.splitlines() if line.startswith("v ")]

@@ -1,9 +1,9 @@
 -- The lists as the vectors that keep them.
-use Rattle.std.proofs.Common.{◌≡◌, ℕ, zero, suc, ◌+◌, ◌<◌, List, [], ◌∷◌, ◌++◌, length, map, get_or, set, Vec, Global, inl, inr, refl, sym, ap, ◌∙◌, arith}
+use Rattle.std.proofs.Common.{◌≡◌, ℕ, zero, suc, ◌<◌, List, [], ◌∷◌, ◌++◌, length, map, get_or, set, Vec, Global, inl, inr, refl, sym, ap, ◌∙◌, arith}
 use Rattle.std.proofs.lemmas.Bool.{cases_lt}
-use Rattle.std.proofs.lemmas.List.{map-set, map-append, get_or-map, length-map, get_or_append_left, get_or_push, get_or_past, length_push}
+use Rattle.std.proofs.lemmas.List.{map-set, get_or-map, length-map, get_or_append_left, get_or_push, get_or_past, length_push}
 use Rattle.watch_lists.specs.declared.lists.Watch.{Watch}
-use Rattle.watch_lists.specs.Lists.{list_at, watch_at}
+use Rattle.watch_lists.specs.Lists.{list_at}
 
 abbrev pub items : List (Vec Watch Global) → List (List Watch)
 items lists = map (λ v. v.items) lists

@@ -1,5 +1,5 @@
 -- What is seen of lists of watches.
-use Rattle.std.specs.Prelude.{◌≡◌, ◌-◌, ◌<◌, ℕ, List, [], length, take, slice_index_or, slice_set}
+use Rattle.std.specs.Prelude.{◌≡◌, ◌-◌, ℕ, List, [], length, take, slice_index_or, slice_set}
 use Rattle.watch_lists.specs.declared.lists.Watch.{Watch}
 
 -- the list with this number

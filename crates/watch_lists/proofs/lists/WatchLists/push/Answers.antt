@@ -1,4 +1,4 @@
-use Rattle.std.proofs.Common.{sym, ap, ◌∙◌, ◌++◌, ◌∷◌, [], List, Vec, Global, Result, Ok, Err, OnErr, set}
+use Rattle.std.proofs.Common.{ap, ◌∙◌, ◌++◌, ◌∷◌, [], List, Vec, Global, Result, Ok, Err, OnErr, set}
 use Rattle.std.proofs.Math.Seq.{map-set_same}
 use Rattle.watch_lists.specs.declared.lists.Watch.{Watch}
 use Rattle.watch_lists.proofs.ListLemmas.{items-set, items-at}

@@ -1,4 +1,4 @@
-use Rattle.std.proofs.Common.{sym, ap, ◌∙◌, List, set}
+use Rattle.std.proofs.Common.{ap, ◌∙◌, List, set}
 use Rattle.std.specs.Vec.{with_item}
 use Rattle.watch_lists.specs.declared.lists.Watch.{Watch}
 use Rattle.watch_lists.proofs.ListLemmas.{items-set, items-at}

@@ -1,4 +1,4 @@
-use Rattle.std.proofs.Common.{◌-◌, ◌<◌, ℕ, sym, ap, ◌∙◌, List, length, set, take, arith}
+use Rattle.std.proofs.Common.{◌-◌, ◌<◌, ap, ◌∙◌, List, length, set, take, arith}
 use Rattle.watch_lists.specs.declared.lists.Watch.{Watch}
 use Rattle.watch_lists.specs.Lists.{swap_removed}
 use Rattle.watch_lists.proofs.ListLemmas.{items-set, items-at, read_any}
