@@ -81,14 +81,41 @@ local_goes z T P t h = ([], to_place (to_local_place t, []), λ k n. ((to_local_
 deref_goes : (z : Lexeme → Bool) (T : Part Lexeme Named) (P : Part Lexeme Placed) (t : Lexeme) → has (1 ∷ []) (class_of t) ≡ true → Goes z (PlaceBody T (PlaceBody T P)) (t ∷ [])
 unfolding inside class_of
 deref_goes z T P t h =
-    let inner = to_place (to_local_place local, []) in
-    (sign (codes "*") ∷ local ∷ sign (codes ")") ∷ [], to_place (to_deref inner, []), λ k n. ((to_deref inner, []), refl, (k, inr ((t, to_deref inner), refl, (_, (h, refl), ((to_deref inner, sign (codes ")")), refl, (sign (codes ")") ∷ k,
-      inl (inner, refl, ((sign (codes "*"), inner), refl, (local ∷ sign (codes ")") ∷ k, (refl, refl), ((to_local_place local, []), refl, (sign (codes ")") ∷ k, inl (local, refl, (refl, refl)), refl))))), (refl, refl))))), refl)))
+    let inner = to_place (to_local_place local, []) in (
+      sign (codes "*") ∷ local ∷ sign (codes ")") ∷ [],
+      to_place (to_deref inner, []),
+      λ k n. (
+        (to_deref inner, []),
+        refl,
+        (
+          k,
+          inr (
+            (t, to_deref inner),
+            refl,
+            (
+              _,
+              (h, refl),
+              (
+                (to_deref inner, sign (codes ")")),
+                refl,
+                (
+                  sign (codes ")") ∷ k,
+                  inl (inner, refl, ((sign (codes "*"), inner), refl, (local ∷ sign (codes ")") ∷ k, (refl, refl), ((to_local_place local, []), refl, (sign (codes ")") ∷ k, inl (local, refl, (refl, refl)), refl))))),
+                  (refl, refl),
+                ),
+              ),
+            ),
+          ),
+          refl,
+        ),
+      ),
+    )
 
 each_place_first : (z : Lexeme → Bool) (T : Part Lexeme Named) (e : ℕ) (t : Lexeme) → has place_firsts (class_of t) ≡ true → Goes z (PlaceLevel Never T (suc (suc e))) (t ∷ [])
 each_place_first z T e t h = elim (one_of 30 (class_of t) (31 ∷ 1 ∷ []) h) [
-    inl i ↦ local_goes z T (PlaceLevel Never T (suc e)) t (subset_has (30 ∷ []) locals (class_of t) refl i)
-    | inr i ↦ elim (one_of 31 (class_of t) (1 ∷ []) i) [ inl j ↦ local_goes z T (PlaceLevel Never T (suc e)) t (subset_has (31 ∷ []) locals (class_of t) refl j) | inr j ↦ deref_goes z T (PlaceLevel Never T e) t j ] ]
+  | inl i ↦ local_goes z T (PlaceLevel Never T (suc e)) t (subset_has (30 ∷ []) locals (class_of t) refl i)
+  | inr i ↦ elim (one_of 31 (class_of t) (1 ∷ []) i) [ inl j ↦ local_goes z T (PlaceLevel Never T (suc e)) t (subset_has (31 ∷ []) locals (class_of t) refl j) | inr j ↦ deref_goes z T (PlaceLevel Never T e) t j ]
+]
 
 place_sentence : (z : Lexeme → Bool) (T : Part Lexeme Named) (e : ℕ) → Goes z (PlaceLevel Never T (suc (suc e))) []
 unfolding class_of

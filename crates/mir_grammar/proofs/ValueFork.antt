@@ -22,7 +22,7 @@ use Rattle.mir_grammar.specs.Lexemes.{Lexeme, class_of, sign, word, number, numb
 use Rattle.mir_grammar.specs.Names.{Named, to_path, to_keyed_path, word_head, impl_head, named_head}
 use Rattle.mir_grammar.specs.Types.{Family, Readers, AnyType, Qualified, any_word, colons, run, without, FreePath, KeyedPath, PathFrom, free_head_at, FreeHead, free_path_at, keyed_path_at, keyed_steps_at, path_from_at}
 use Rattle.mir_grammar.specs.Places.{Placed, place_firsts}
-use Rattle.mir_grammar.specs.Values.{Limited, Value, to_plus, to_minus, to_bool, to_char, to_text, to_unit, to_named, truths, constant_words, FormedConstant, ConstantOf, to_copy, to_move, to_const, Marked, OperandOf, marks, operand_firsts, Operands, to_plain_kind, to_coercion, Coercion, Kind, CastTo, to_used, Used, to_binary, binaries, Binary, to_unary, Unary, to_measured, Measured, to_sized, Sized, to_ref_of, to_raw_of, mutable, immutable, Reference, Times, Others, to_array_of, to_no_array, ArrayRest, ArrayOf, to_tuple_of, TupleOf, Operator, FormedValue, value_words, free_words, ValuePath, to_field, Field, Fields, formed_constant_at, constant_firsts, constant_at, marked_at, operand_at, operands_at, coercion_at, kind_at, cast_to_at, used_at, binary_at, unaries, measures, sizes, unary_at, measured_at, sized_at, reference_at, array_rest_at, array_of_at, tuple_of_at, operator_at, tuple_seconds, used_or_tuple_at, formed_value_at, formed_value_firsts, value_path_at, field_at, fields_at}
+use Rattle.mir_grammar.specs.Values.{Limited, Value, to_plus, to_minus, to_bool, to_char, to_text, to_unit, to_named, truths, constant_words, FormedConstant, ConstantOf, to_copy, to_move, to_const, Marked, OperandOf, marks, operand_firsts, Operands, to_plain_kind, to_coercion, Coercion, Kind, CastTo, to_used, Used, to_binary, binaries, Binary, to_unary, Unary, to_measured, Measured, to_sized, Sized, to_ref_of, to_raw_of, mutable, immutable, Reference, Times, Others, to_times, to_array_of, to_no_array, ArrayRest, ArrayOf, to_tuple_of, TupleOf, Operator, FormedValue, value_words, free_words, ValuePath, to_field, Field, Fields, formed_constant_at, constant_firsts, constant_at, marked_at, operand_at, operands_at, coercion_at, kind_at, cast_to_at, used_at, binary_at, unaries, measures, sizes, unary_at, measured_at, sized_at, reference_at, array_rest_at, array_of_at, tuple_of_at, operator_at, tuple_seconds, used_or_tuple_at, formed_value_at, formed_value_firsts, value_path_at, field_at, fields_at}
 use Rattle.mir_grammar.proofs.Samples.{impl_segment, name}
 use Rattle.mir_grammar.proofs.TypeReady.{near, AllReady, keyed_steps_ready, path_steps_ready}
 use Rattle.mir_grammar.proofs.PlaceReady.{flat, number-ready}

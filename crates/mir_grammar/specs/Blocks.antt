@@ -21,6 +21,12 @@ use Rattle.mir_ir.specs.declared.tree.Terminator.TheVariants as terminator
 use Rattle.grammar_words.specs.Grammar.{Part, Then, Made, Either, Each, Next, More, Last}
 use Rattle.grammar_words.specs.Reading.{Reader, joined, made, pick, choose, many}
 use Rattle.grammar_words.specs.Classes.{inside, Tok, tok, Past, past, Ended, ended, Perhaps, perhaps, Perhaps_token, bare}
+pub use Rattle.mir_grammar.specs.declared.trees.Target.{Target}
+pub use Rattle.mir_grammar.specs.declared.trees.Target.TheVariants.{ToBlock, ToLabel, ToNone}
+pub use Rattle.mir_grammar.specs.declared.trees.Ending.{Ending}
+pub use Rattle.mir_grammar.specs.declared.trees.Ending.TheVariants.{Settled, Calling}
+pub use Rattle.mir_grammar.specs.declared.trees.PathTail.{PathTail}
+pub use Rattle.mir_grammar.specs.declared.trees.PathTail.TheVariants.{UnitTail, FieldTail, OperandTail}
 use Rattle.mir_grammar.specs.Lexemes.{Lexeme, class_of, local_number, label_number, number_value, text_body}
 use Rattle.mir_grammar.specs.Names.{Named}
 use Rattle.mir_grammar.specs.Types.{Family, Readers, any_word, colons, perhaps_token}
@@ -65,13 +71,6 @@ Bracketed word = Made with_edge (Past class_of (3 ∷ []) (Past class_of word (P
 
 abbrev pub NextBlock : List ℕ → Part Lexeme Label
 NextBlock word = Either LabelPart (Bracketed word)
-
--- where a call goes on: the block in brackets; a label without them, which is the next block unless it is a cleanup
--- block's; or nowhere
-pub data Target : Type 0 where
-  ToBlock : BlockId → Target
-  ToLabel : BlockId → Target
-  ToNone : Target
 
 unfoldable pub bare_target : Label → Limited Target
 bare_target l = record { value = ToLabel l.value; passed = l.passed }
@@ -135,11 +134,6 @@ abbrev pub StatementOf : Family → Part Lexeme Placed → Part Lexeme Kept
 StatementOf T P = Either (AssignOf T P) (WordStatement P)
 
 -- Terminators.
-
--- a terminator, or a call whose target may be a label without brackets
-pub data Ending : Type 0 where
-  Settled : Terminator → Ending
-  Calling : PlaceExpr → Callee → List Operand → Target → Ending
 
 abbrev pub EndingAt : Type 0
 EndingAt = Limited Ending
@@ -229,12 +223,6 @@ CleanupBody T P = Then (Each (StatementOf T P)) (Either (TerminatorOf T P) Resum
 
 abbrev pub Line : Type 0
 Line = Next Kept EndingAt
-
--- what stands behind the path of a value
-pub data PathTail : Type 0 where
-  UnitTail : PathTail
-  FieldTail : List (Limited NamedOperand) → PathTail
-  OperandTail : List (Limited Operand) → Option (Limited Target) → PathTail
 
 abbrev pub unit_tail : Lexeme → PathTail
 unit_tail l = UnitTail

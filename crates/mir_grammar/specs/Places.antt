@@ -10,15 +10,12 @@ use Rattle.mir_ir.specs.declared.places.Projection.TheVariants as step
 use Rattle.grammar_words.specs.Grammar.{Part, Then, Made, Either, Each}
 use Rattle.grammar_words.specs.Reading.{Reader, joined, made, pick, many, guard, deep}
 use Rattle.grammar_words.specs.Classes.{inside, Tok, tok, Past, past, Ended, ended}
+pub use Rattle.mir_grammar.specs.declared.limits.Passed.{Passed}
+pub use Rattle.mir_grammar.specs.declared.trees.Placed.{Placed}
+pub use Rattle.mir_grammar.specs.declared.trees.Stepped.{Stepped}
 use Rattle.mir_grammar.specs.Lexemes.{Lexeme, class_of, local_number, number_value}
 use Rattle.mir_grammar.specs.Names.{Named}
 use Rattle.mir_grammar.specs.Types.{any_word}
-
--- which limits are passed: a local's number is above 4095, a block's is, a name is longer than 256 bytes
-pub record Passed : Type 0 where
-  pub locals : Bool
-  pub blocks : Bool
-  pub names : Bool
 
 abbrev pub none_passed : Passed
 none_passed = record { locals = false; blocks = false; names = false }
@@ -34,16 +31,6 @@ far_local l = record { locals = is_far (local_number l); blocks = false; names =
 
 abbrev pub long_name : Bool → Passed
 long_name b = record { locals = false; blocks = false; names = b }
-
--- a place, and the limits that it passes
-pub record Placed : Type 0 where
-  pub place : PlaceExpr
-  pub passed : Passed
-
--- one step of a place
-pub record Stepped : Type 0 where
-  pub step : Projection
-  pub passed : Passed
 
 abbrev pub to_local_id : ℕ → LocalId
 to_local_id n = record { 0 = n }
