@@ -1,7 +1,7 @@
 -- Places are ready.
-use Rattle.std.proofs.Common.{◌≡◌, ◌⊎◌, inl, inr, ℕ, zero, suc, ◌+◌, ◌≤◌, Bool, true, false, List, [], ◌∷◌, ◌++◌, codes, refl, arith}
-use Rattle.grammar_words.specs.Grammar.{Part, Then, Made, Either, Each, Never, At}
-use Rattle.grammar_words.specs.Reading.{Reader, guard, deep}
+use Rattle.std.proofs.Common.{◌≡◌, inl, inr, ℕ, zero, suc, ◌+◌, ◌≤◌, Bool, true, false, List, [], ◌∷◌, codes, refl, arith}
+use Rattle.grammar_words.specs.Grammar.{Part, Each, Never, At}
+use Rattle.grammar_words.specs.Reading.{Reader}
 use Rattle.grammar_words.specs.Classes.{has, inside, outside, Tok, tok}
 use Rattle.grammar_words.proofs.Sets.{subset_has}
 use Rattle.grammar_words.proofs.Laws.{Goes}
@@ -13,8 +13,8 @@ use Rattle.grammar_words.proofs.ReadyLimit.{limit_shape, limit-ready, guard-read
 use Rattle.grammar_words.proofs.Starts.{Starts, starts-tok, starts-made, starts-then, starts-past, starts-either, starts-opens, one_of}
 use Rattle.mir_grammar.specs.Lexemes.{Lexeme, class_of, sign, word}
 use Rattle.mir_grammar.specs.Names.{Named}
-use Rattle.mir_grammar.specs.Types.{Want, AnyType, any_word}
-use Rattle.mir_grammar.specs.Places.{Placed, Stepped, to_local_place, to_stepped, to_place, to_deref, to_field, to_downcast, to_index, to_front, to_back, locals, place_firsts, NumberOf, IndexInside, Index, Selector, InParentheses, Base, PlaceBody, PlaceLevel, number_of_at, index_inside_at, index_at, selector_at, in_parentheses_at, base_at, place_body, place_at}
+use Rattle.mir_grammar.specs.Types.{AnyType, any_word}
+use Rattle.mir_grammar.specs.Places.{Placed, to_local_place, to_stepped, to_place, to_deref, to_field, to_downcast, to_index, to_front, to_back, locals, place_firsts, NumberOf, IndexInside, Index, Selector, InParentheses, Base, PlaceBody, PlaceLevel, number_of_at, index_inside_at, index_at, selector_at, in_parentheses_at, base_at, place_body, place_at}
 use Rattle.mir_grammar.proofs.Samples.{plain_number, plain_number_class, name}
 use Rattle.mir_grammar.proofs.TypeReady.{far, near}
 

@@ -1,15 +1,15 @@
 -- Each token that may come first begins a type.
-use Rattle.std.proofs.Common.{◌≡◌, ◌⊎◌, inl, inr, ℕ, zero, suc, Bool, true, false, ◌||◌, if◌then◌else◌, List, [], ◌∷◌, ◌++◌, codes, Option, Some, None, refl, sym, ◌∙◌, ap, subst}
+use Rattle.std.proofs.Common.{◌≡◌, ◌⊎◌, inl, inr, ℕ, suc, Bool, true, false, ◌||◌, if◌then◌else◌, List, [], ◌∷◌, codes, None, refl, sym, ◌∙◌, ap, subst}
 use Rattle.std.proofs.lemmas.Bool.{eqb-true}
 use Rattle.std.specs.Prelude.{◌==◌}
 use Rattle.grammar_words.specs.Grammar.{Part, Either}
 use Rattle.grammar_words.specs.Classes.{has, inside}
 use Rattle.grammar_words.proofs.Laws.{Goes}
 use Rattle.grammar_words.proofs.Sets.{has_append}
-use Rattle.grammar_words.proofs.Starts.{Starts, starts-tok, starts-made, starts-then, starts-past, starts-either, one_of}
+use Rattle.grammar_words.proofs.Starts.{one_of}
 use Rattle.mir_grammar.specs.Lexemes.{Lexeme, class_of, sign, word}
-use Rattle.mir_grammar.specs.Names.{Named, to_path, to_keyed_path, to_plain, to_tuple, to_array, to_ref, to_raw, to_dyn, to_mut_path, to_qualified, word_head, impl_head, word_step, named_head}
-use Rattle.mir_grammar.specs.Types.{Family, Want, AnyType, NotMut, BehindMut, Qualified, any_word, colons, type_names, type_words, path_words, path_words_but_mut, firsts_of, type_firsts, formed_firsts, without, FreePath, KeyedSteps, PathFrom, FormedType, TypeBody, TypeLevel, NoType, unmarked}
+use Rattle.mir_grammar.specs.Names.{Named, to_path, to_plain, to_tuple, to_array, to_ref, to_raw, to_dyn, to_mut_path, to_qualified, word_head, impl_head, word_step, named_head}
+use Rattle.mir_grammar.specs.Types.{Family, Want, AnyType, NotMut, BehindMut, Qualified, any_word, colons, type_names, type_words, path_words, path_words_but_mut, firsts_of, type_firsts, without, FreePath, KeyedSteps, PathFrom, FormedType, TypeLevel, NoType}
 use Rattle.mir_grammar.proofs.Samples.{name}
 
 has_without_step : (x n : ℕ) (set xs : List ℕ) (b c : Bool) → has set x ≡ b → (x == n) ≡ c → (if c then true else has xs n) ≡ true → (has xs n ≡ true → (has set n ≡ true) ⊎ (has (without set xs) n ≡ true))

@@ -1,20 +1,20 @@
 -- Types and paths at each limit are ready.
-use Rattle.std.proofs.Common.{◌≡◌, ℕ, zero, suc, ◌+◌, ◌≤◌, Bool, true, false, List, [], ◌∷◌, ◌++◌, if◌then◌else◌, codes, refl, ap, arith}
-use Rattle.grammar_words.specs.Grammar.{Part, Then, Made, Either, Each, At}
-use Rattle.grammar_words.specs.Reading.{Reader, choose, guard, deep}
-use Rattle.grammar_words.specs.Classes.{has, inside, outside, Tok, tok, Past, bare}
-use Rattle.grammar_words.proofs.Ready.{Shape, Ready, tok-ready, made-ready, wider-ready}
+use Rattle.std.proofs.Common.{◌≡◌, ℕ, zero, suc, ◌+◌, ◌≤◌, true, false, List, [], ◌∷◌, ◌++◌, if◌then◌else◌, refl, ap, arith}
+use Rattle.grammar_words.specs.Grammar.{Made, Each, At}
+use Rattle.grammar_words.specs.Reading.{guard}
+use Rattle.grammar_words.specs.Classes.{has, inside, outside, tok}
+use Rattle.grammar_words.proofs.Ready.{Shape, Ready, made-ready, wider-ready}
 use Rattle.grammar_words.proofs.ReadyJoin.{left_short}
 use Rattle.grammar_words.proofs.ReadyLimit.{limit_shape, limit-ready, guard-ready}
-use Rattle.grammar_words.proofs.Fork.{Moves, Seen, moves-tok, moves-made, moves-joined, moves-left, moves-right, moves-both, fork-ready, fork_shape}
+use Rattle.grammar_words.proofs.Fork.{Moves, Seen, moves-tok, moves-made, moves-joined, moves-left, moves-right, moves-both, fork-ready}
 use Rattle.grammar_words.proofs.Seen.{seen-apart, seen-alone, seen-token, seen-behind, seen-before, seen-made, seen-either}
-use Rattle.mir_grammar.specs.Lexemes.{Lexeme, class_of, sign, word}
-use Rattle.mir_grammar.specs.Names.{Named, to_path, to_keyed_path, to_plain, to_dyn, to_mut_path, to_qualified, to_tuple, to_array, to_ref, to_raw, word_head, impl_head, named_head}
-use Rattle.mir_grammar.specs.Types.{Family, Readers, Want, AnyType, NotMut, BehindMut, Qualified, any_word, colons, type_names, type_words, path_words, path_words_but_mut, firsts_of, type_firsts, formed_firsts, without, PathStep, FreePath, KeyedPath, KeyedSteps, PathFrom, PlainType, DynType, FormedType, keyed_steps_at, free_path_at, keyed_path_at, path_from_at, dyn_at, formed_at, tuple_at, array_at, ref_at, raw_at, plain_at, TypeBody, type_body, TypeLevel, NoType, type_at}
+use Rattle.mir_grammar.specs.Lexemes.{Lexeme, class_of}
+use Rattle.mir_grammar.specs.Names.{to_path, to_keyed_path, to_plain, to_dyn, to_mut_path, to_qualified, to_tuple, to_array, to_ref, to_raw, word_head, impl_head, named_head}
+use Rattle.mir_grammar.specs.Types.{Family, Readers, Want, AnyType, NotMut, BehindMut, Qualified, any_word, colons, type_names, type_words, path_words, path_words_but_mut, firsts_of, type_firsts, formed_firsts, PathStep, FreePath, KeyedSteps, PathFrom, FormedType, keyed_steps_at, free_path_at, keyed_path_at, path_from_at, dyn_at, formed_at, tuple_at, array_at, ref_at, raw_at, plain_at, TypeBody, type_body, TypeLevel, NoType, type_at}
 use Rattle.grammar_words.proofs.Sets.{subset}
 use Rattle.grammar_words.proofs.Starts.{Starts, starts-tok, starts-made, starts-then, starts-past, starts-either, starts-wider, starts-opens}
 use Rattle.mir_grammar.proofs.TypeFirsts.{each_first, each_sentence}
-use Rattle.mir_grammar.proofs.TypeReady.{type_stops, stops_of, far, near, AllReady, DynBody, dyn_body_at, dyn_body_ready, keyed_steps_ready, keyed_path_ready, type_path_ready, path_but_mut_ready, type_path_from_ready, path_from_but_mut_ready, qualified_ready, plain_ready, tuple_ready, array_ready, ref_ready, raw_ready, formed_ready}
+use Rattle.mir_grammar.proofs.TypeReady.{type_stops, stops_of, far, near, AllReady, dyn_body_at, dyn_body_ready, keyed_steps_ready, type_path_ready, path_but_mut_ready, type_path_from_ready, path_from_but_mut_ready, qualified_ready, tuple_ready, array_ready, ref_ready, raw_ready, formed_ready}
 
 -- the words of types are taken by both forms
 

@@ -8,7 +8,7 @@
 -- A parameter is not _0.
 use Rattle.std.specs.Prelude.{ℕ, zero, suc, Bool, true, false, List, [], ◌∷◌, ◌++◌, length, ◌+◌}
 use Rattle.grammar_words.specs.Grammar.{Part, Then, Made, Either, Each, Never, At}
-use Rattle.grammar_words.specs.Reading.{Outcome, Reader, joined, made, pick, many, until, guard, deep, first}
+use Rattle.grammar_words.specs.Reading.{Outcome, Reader, joined, made, pick, many, until, guard, deep}
 use Rattle.grammar_words.specs.Classes.{inside, Tok, tok, Past, past, Ended, ended, Perhaps, perhaps, Perhaps_token, Listed, listed}
 use Rattle.grammar_words.specs.Exact.{whole, IsRight}
 pub use Rattle.mir_grammar.specs.declared.trees.Declared.{Declared}

@@ -2,10 +2,8 @@
 --   place := base ([ index ])*
 --   base  := local | ( * place ) | ( place . number : type ) | ( place as word )
 --   index := local | number of number | - number of number
-use Rattle.std.specs.Prelude.{ℕ, zero, suc, Bool, true, false, ◌||◌, nat_le, List, [], ◌∷◌, ◌++◌}
+use Rattle.std.specs.Prelude.{ℕ, zero, suc, Bool, false, ◌||◌, nat_le, List, [], ◌∷◌, ◌++◌}
 use Rattle.vk_core.specs.declared.ids.LocalId.{LocalId}
-use Rattle.mir_ir.specs.declared.places.PlaceExpr.{PlaceExpr}
-use Rattle.mir_ir.specs.declared.places.Projection.{Projection}
 use Rattle.mir_ir.specs.declared.places.Projection.TheVariants as step
 use Rattle.grammar_words.specs.Grammar.{Part, Then, Made, Either, Each}
 use Rattle.grammar_words.specs.Reading.{Reader, joined, made, pick, many, guard, deep}
@@ -26,8 +24,14 @@ both_passed a b = record { locals = a.locals || b.locals; blocks = a.blocks || b
 abbrev pub is_far : ℕ → Bool
 is_far n = nat_le 4096 n
 
+abbrev pub local_passed : ℕ → Passed
+local_passed n = record { locals = is_far n; blocks = false; names = false }
+
+abbrev pub block_passed : ℕ → Passed
+block_passed n = record { locals = false; blocks = is_far n; names = false }
+
 abbrev pub far_local : Lexeme → Passed
-far_local l = record { locals = is_far (local_number l); blocks = false; names = false }
+far_local l = local_passed (local_number l)
 
 abbrev pub long_name : Bool → Passed
 long_name b = record { locals = false; blocks = false; names = b }

@@ -7,11 +7,10 @@
 --             | path { list(word : operand) }
 --   marked   := an operand that begins with copy, move or const
 --   kind     := IntToInt | PtrToPtr | PointerCoercion ( (Unsize | MutToConstPointer) (, word)? )
-use Rattle.std.specs.Prelude.{ℕ, ◌+◌, ◌-◌, ◌%◌, ◌^◌, Bool, true, false, ◌==◌, if◌then◌else◌, List, [], ◌∷◌, ◌++◌, codes, Option, Some, None}
+use Rattle.std.specs.Prelude.{ℕ, ◌-◌, ◌%◌, ◌^◌, Bool, true, false, if◌then◌else◌, List, [], ◌∷◌, ◌++◌, codes, Option, Some, None}
 use Rattle.std.specs.Str.{bytes_eq}
 use Rattle.word_bits.specs.declared.word.Word.{Word}
 use Rattle.mir_ir.specs.declared.types.IntTy.{IntTy}
-use Rattle.mir_ir.specs.declared.types.IntTy.TheVariants as int
 use Rattle.mir_ir.specs.declared.tree.Constant.{Constant}
 use Rattle.mir_ir.specs.declared.tree.Constant.TheVariants as constant
 use Rattle.mir_ir.specs.declared.tree.Operand.{Operand}
@@ -26,15 +25,15 @@ use Rattle.mir_ir.specs.declared.tree.BinaryOp.TheVariants as op
 use Rattle.mir_ir.specs.Integers.{width_of, is_signed}
 use Rattle.mir_ir.specs.Names.{all_ints, binary_of_name, name_of_int}
 use Rattle.grammar_words.specs.Grammar.{Part, Then, Made, Either, Each}
-use Rattle.grammar_words.specs.Reading.{Reader, joined, made, pick, choose, many, first, second}
-use Rattle.grammar_words.specs.Classes.{inside, Tok, tok, Past, past, Ended, ended, Perhaps, perhaps, Perhaps_token, Listed, listed, Trailed, trailed, bare}
+use Rattle.grammar_words.specs.Reading.{Reader, joined, made, pick, choose, many}
+use Rattle.grammar_words.specs.Classes.{inside, Tok, tok, Past, past, Ended, ended, Perhaps, perhaps, Listed, listed, Trailed, trailed, bare}
 pub use Rattle.mir_grammar.specs.declared.limits.Limited.{Limited}
 pub use Rattle.mir_grammar.specs.declared.trees.ArrayTail.{ArrayTail}
 pub use Rattle.mir_grammar.specs.declared.trees.ArrayTail.TheVariants.{Times, Others}
 use Rattle.mir_grammar.specs.Lexemes.{Lexeme, class_of, number_value, number_type, text_body, char_value}
 use Rattle.mir_grammar.specs.Names.{Named}
-use Rattle.mir_grammar.specs.Types.{Family, Readers, AnyType, any_word, colons, run, without, type_firsts, FreePath, KeyedPath, PathFrom, free_path_at, keyed_path_at, path_from_at, perhaps_token}
-use Rattle.mir_grammar.specs.Places.{Passed, none_passed, both_passed, long_name, Placed, place_firsts, locals}
+use Rattle.mir_grammar.specs.Types.{Family, Readers, AnyType, any_word, colons, run, without, PathFrom, path_from_at}
+use Rattle.mir_grammar.specs.Places.{Passed, none_passed, both_passed, long_name, Placed, place_firsts}
 
 -- Constants.
 
