@@ -1,34 +1,26 @@
 -- Statements and terminators are ready.
-use Rattle.std.proofs.Common.{◌≡◌, ◌⊎◌, inl, inr, ℕ, zero, suc, ◌+◌, ◌≤◌, Bool, true, false, List, [], ◌∷◌, ◌++◌, codes, Option, Some, None, refl, arith}
-use Rattle.grammar_words.specs.Grammar.{Part, Then, Made, Either, Each, Next, More, Last}
-use Rattle.grammar_words.specs.Reading.{Reader, joined, made, pick, choose, first, second}
-use Rattle.grammar_words.specs.Classes.{has, inside, outside, Tok, tok, Past, past, Ended, ended, Trailed, trailed, perhaps, bare}
+use Rattle.std.proofs.Common.{◌≡◌, ℕ, Bool, true, false, List, [], ◌∷◌, ◌++◌, codes, Some, None, refl}
+use Rattle.grammar_words.specs.Grammar.{Part, Then, More, Last}
+use Rattle.grammar_words.specs.Reading.{Reader}
+use Rattle.grammar_words.specs.Classes.{Tok, tok, Past}
 use Rattle.grammar_words.proofs.Laws.{any}
-use Rattle.grammar_words.proofs.Ready.{Shape, Ready, token_shape, tok-ready, made-ready, wider-ready}
+use Rattle.grammar_words.proofs.Ready.{Ready, token_shape, tok-ready, made-ready, wider-ready}
 use Rattle.grammar_words.proofs.ReadyJoin.{then-ready, either-ready, left_short}
 use Rattle.grammar_words.proofs.ReadyMany.{many-ready}
-use Rattle.grammar_words.proofs.ReadyWords.{past-ready, ended-ready, perhaps-ready, listed-ready}
-use Rattle.grammar_words.proofs.ReadyLimit.{limit_shape}
-use Rattle.grammar_words.proofs.Trailing.{trailed-ready, past_opens}
-use Rattle.grammar_words.proofs.Sets.{apart}
-use Rattle.grammar_words.proofs.Fork.{Moves, Seen, moves-tok, moves-made, moves-joined, moves-left, moves-right, moves-both, moves-fork, fork-ready}
-use Rattle.grammar_words.proofs.Seen.{seen-apart, seen-alone, seen-token, seen-behind, seen-before, seen-made, seen-either, seen-then, behind_any, fits_behind}
-use Rattle.mir_ir.specs.declared.tree.CastKind.{CastKind}
-use Rattle.mir_ir.specs.declared.tree.Constant.{Constant}
-use Rattle.mir_ir.specs.declared.tree.Operand.{Operand}
-use Rattle.mir_lex.specs.declared.token.TokenKind.TheVariants as kind
-use Rattle.mir_ir.specs.Names as names
-use Rattle.mir_grammar.specs.Lexemes.{Lexeme, class_of, sign, word, number, number_value, number_type}
-use Rattle.mir_grammar.specs.Names.{Named, to_path, to_keyed_path, word_head, impl_head, named_head}
-use Rattle.mir_grammar.specs.Types.{Family, Readers, AnyType, Qualified, any_word, colons, run, without, FreePath, KeyedPath, PathFrom, free_head_at, FreeHead, free_path_at, keyed_path_at, keyed_steps_at, path_from_at}
+use Rattle.grammar_words.proofs.ReadyWords.{past-ready, ended-ready, perhaps-ready}
+use Rattle.grammar_words.proofs.Trailing.{past_opens}
+use Rattle.grammar_words.proofs.Fork.{Moves, Seen, moves-made, moves-joined, fork-ready}
+use Rattle.grammar_words.proofs.Seen.{seen-alone, seen-made, seen-either, seen-then, behind_any, fits_behind}
+use Rattle.mir_grammar.specs.Lexemes.{Lexeme, class_of, sign, word}
+use Rattle.mir_grammar.specs.Types.{Family, Readers, any_word, colons}
 use Rattle.mir_grammar.specs.Places.{Placed, place_firsts}
-use Rattle.mir_grammar.specs.Values.{Limited, Value, to_plus, to_minus, to_bool, to_char, to_text, to_unit, to_named, truths, constant_words, FormedConstant, ConstantOf, to_copy, to_move, to_const, Marked, OperandOf, marks, operand_firsts, Operands, to_plain_kind, to_coercion, Coercion, Kind, CastTo, to_used, Used, to_binary, binaries, Binary, to_unary, Unary, to_measured, Measured, to_sized, Sized, to_ref_of, to_raw_of, mutable, immutable, Reference, Times, Others, to_array_of, to_no_array, ArrayRest, ArrayOf, to_tuple_of, TupleOf, Operator, FormedValue, value_words, free_words, ValuePath, to_field, Field, Fields, formed_constant_at, constant_firsts, constant_at, marked_at, operand_at, operands_at, coercion_at, kind_at, cast_to_at, used_at, binary_at, unaries, measures, sizes, unary_at, measured_at, sized_at, reference_at, array_rest_at, array_of_at, tuple_of_at, operator_at, tuple_seconds, used_or_tuple_at, formed_value_at, formed_value_firsts, value_path_at, field_at, fields_at}
-use Rattle.mir_grammar.proofs.Samples.{impl_segment, name}
-use Rattle.mir_grammar.proofs.TypeReady.{near, AllReady, keyed_steps_ready, path_steps_ready}
+use Rattle.mir_grammar.specs.Values.{Value, to_copy, to_move, to_const, Marked, OperandOf, to_used, to_binary, binaries, to_unary, to_measured, to_sized, FormedValue, value_words, formed_value_at, formed_value_firsts, value_path_at}
+use Rattle.mir_grammar.proofs.Samples.{name}
+use Rattle.mir_grammar.proofs.TypeReady.{near, AllReady}
 use Rattle.mir_grammar.proofs.PlaceReady.{flat, number-ready}
 use Rattle.mir_grammar.specs.Places.{locals, none_passed}
-use Rattle.mir_grammar.proofs.ValueReady.{PlaceKit, constant_ready, marked_ready, operand_ready, operands_ready, used_ready, cast_ready, binary_ready, unary_ready, measured_ready, sized_ready, operator_ready, reference_ready, array_of_ready, tuple_of_ready, value_path_ready, value_path_moves, value_path_seen}
-use Rattle.mir_grammar.specs.Blocks.{to_block_id, far_block, Label, to_label, LabelPart, no_label, edge_label, Edge, with_edge, Bracketed, NextBlock, bare_target, block_target, edge_target, returns, TargetPart, Kept, to_assign, to_live, to_dead, to_variant, to_nothing, to_mention, AssignOf, LocalLine, MentionPart, VariantPart, WordStatement, StatementOf, EndingAt, to_goto, to_return, to_unreachable, to_arm, to_switch, to_drop, to_assert, Arrow, ArmPart, SwitchArms, Assert, SwitchPart, DropPart, WordTerminator, Called, to_call, CallOf, TerminatorOf, Body, to_resume, Resumed, CleanupBody, Line, unit_tail, operand_tail, to_path_line, to_assign_line, CallEnd, PathRest, FormedLine, PathLine, ValueLine, LinePart, CleanupLine, label_at, edge_at, bracketed_at, next_at, target_at, local_line_at, mention_at, variant_at, word_statement_at, arrow_at, arm_at, switch_arms_at, assert_at, switch_at, drop_at, word_terminator_at, resumed_at, call_end_at, path_rest_at, formed_line_at, path_line_at, value_line_at, statement_words, terminator_words, assign_line_at, line_at, cleanup_line_at, ToBlock, ToLabel, ToNone, Settled, Calling, UnitTail, FieldTail, OperandTail}
+use Rattle.mir_grammar.proofs.ValueReady.{PlaceKit, constant_ready, operand_ready, operands_ready, reference_ready, array_of_ready, tuple_of_ready, value_path_ready, value_path_moves, value_path_seen}
+use Rattle.mir_grammar.specs.Blocks.{to_label, LabelPart, no_label, edge_label, Edge, with_edge, Bracketed, NextBlock, bare_target, block_target, edge_target, returns, TargetPart, to_live, to_dead, to_variant, to_nothing, to_mention, LocalLine, MentionPart, VariantPart, WordStatement, to_goto, to_return, to_unreachable, to_arm, to_switch, to_drop, to_assert, ArmPart, SwitchArms, Assert, SwitchPart, DropPart, WordTerminator, to_resume, Resumed, unit_tail, operand_tail, to_path_line, to_assign_line, CallEnd, PathRest, FormedLine, PathLine, ValueLine, LinePart, CleanupLine, label_at, edge_at, bracketed_at, next_at, target_at, local_line_at, mention_at, variant_at, word_statement_at, arm_at, switch_arms_at, assert_at, switch_at, drop_at, word_terminator_at, resumed_at, call_end_at, path_rest_at, formed_line_at, path_line_at, value_line_at, statement_words, terminator_words, line_at, cleanup_line_at, FieldTail}
 use Rattle.mir_grammar.proofs.ValueFork.{formed_value_ready, formed_moves}
 use Rattle.mir_grammar.proofs.ValueReady.{fields_ready, text}
 
@@ -163,7 +155,7 @@ formed_sees : {m : ℕ} {x : List Lexeme} {T U : Family} {S : List Lexeme → Fa
 formed_sees i r y =
     seen-either (seen-either (seen-made to_used (seen-then _ (operand_sees i r y))) (seen-alone (near [] (1 ∷ [])) formed_value_firsts value_words colons ((tuple_of_ready i r).opens_holed y) refl))
     (seen-either (seen-either (seen-made to_binary (word_sees binaries _ refl)) (seen-either (seen-made to_unary (word_sees (144 ∷ 145 ∷ 146 ∷ []) _ refl))
-        (seen-either (seen-made to_measured (word_sees (147 ∷ 148 ∷ []) _ refl)) (seen-made to_sized (word_sees (149 ∷ 150 ∷ []) _ refl)))))
+    (seen-either (seen-made to_measured (word_sees (147 ∷ 148 ∷ []) _ refl)) (seen-made to_sized (word_sees (149 ∷ 150 ∷ []) _ refl)))))
     (seen-either (seen-alone (near (3 ∷ []) (15 ∷ [])) formed_value_firsts value_words colons ((reference_ready i r).opens_holed y) refl) (seen-alone (near [] (3 ∷ [])) formed_value_firsts value_words colons ((array_of_ready i r).opens_holed y) refl)))
 
 path_sees : {m : ℕ} {x : List Lexeme} {T U : Family} {S : List Lexeme → Family} {t u : Readers} {R W : Part Lexeme Placed} {H : List Lexeme → Part Lexeme Placed} {p w : Reader Lexeme Placed} → AllReady m x T U S t u → PlaceKit m x R W H p w → (z : Lexeme → Bool) (y : List Lexeme) → Seen class_of formed_value_firsts value_words colons z false (PathLine (S y) (H y))

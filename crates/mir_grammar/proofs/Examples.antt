@@ -1,5 +1,5 @@
 -- Texts by their tokens, and what they mean.
-use Rattle.std.proofs.Common.{◌≡◌, ℕ, Bool, true, false, List, [], ◌∷◌, codes, refl}
+use Rattle.std.proofs.Common.{◌≡◌, Bool, true, false, [], ◌∷◌, codes, refl}
 use Rattle.grammar_words.specs.declared.stop.Why.TheVariants.{Wrong, Deep}
 use Rattle.grammar_words.specs.Reading.{Outcome, Got, Fault, chained, made, choose, guard}
 use Rattle.grammar_words.specs.Classes.{inside}
@@ -10,8 +10,7 @@ use Rattle.mir_grammar.specs.Places.{place_body}
 use Rattle.mir_grammar.specs.Values.{constant_at, operand_at, used_or_tuple_at}
 use Rattle.mir_grammar.specs.Blocks.{value_line_at, line_at, cleanup_line_at}
 use Rattle.mir_grammar.specs.Functions.{type_answer, scope_body, block_at, function_at, text_at, answer}
-use Rattle.mir_grammar.proofs.Samples.{lifetime, impl_segment}
-use Rattle.mir_grammar.proofs.ValueReady.{character, text}
+use Rattle.mir_grammar.proofs.ValueReady.{text}
 
 -- the text means something
 abbrev is_read : {A : Type 0} → Outcome Lexeme A → Bool

@@ -1,14 +1,14 @@
 -- Functions and whole texts are ready, and each answer is right.
-use Rattle.std.proofs.Common.{◌≡◌, ◌⊎◌, inl, inr, ℕ, zero, suc, ◌+◌, ◌≤◌, ◌<◌, Bool, true, false, List, [], ◌∷◌, ◌++◌, length, codes, refl, arith}
-use Rattle.grammar_words.specs.Grammar.{Part, Then, Made, Either, Each, Never, At, Next, More, Last}
-use Rattle.grammar_words.specs.Reading.{Reader, joined, made, pick, many, until, guard, deep}
-use Rattle.grammar_words.specs.Classes.{has, inside, outside, Tok, tok, Past, past, Ended, ended}
+use Rattle.std.proofs.Common.{◌≡◌, inl, inr, ℕ, zero, suc, ◌+◌, ◌≤◌, Bool, true, false, List, [], ◌∷◌, ◌++◌, length, codes, refl, arith}
+use Rattle.grammar_words.specs.Grammar.{Part, Made, Each, Never, At}
+use Rattle.grammar_words.specs.Reading.{Reader, until, guard}
+use Rattle.grammar_words.specs.Classes.{has, inside, outside, tok, ended}
 use Rattle.grammar_words.proofs.Laws.{any, Goes}
 use Rattle.grammar_words.proofs.Ready.{Shape, Ready, token_shape, tok-ready, made-ready, wider-ready}
 use Rattle.grammar_words.proofs.ReadyJoin.{then-ready, either-ready, left_short}
 use Rattle.grammar_words.proofs.ReadyMany.{many-ready}
 use Rattle.grammar_words.proofs.ReadyUntil.{until-ready}
-use Rattle.grammar_words.proofs.Until.{Lines, Closes}
+use Rattle.grammar_words.proofs.Until.{Closes}
 use Rattle.grammar_words.proofs.ReadyWords.{past-ready, ended-ready, ended_shape, perhaps-ready, listed-ready}
 use Rattle.grammar_words.proofs.ReadyLimit.{limit_shape, limit-ready, guard-ready, spelled-ready, levels}
 use Rattle.grammar_words.proofs.Starts.{starts-made, starts-past, starts-opens}
@@ -17,15 +17,15 @@ use Rattle.grammar_words.proofs.Seen.{seen-alone, seen-made, seen-either, seen-t
 use Rattle.grammar_words.proofs.Whole.{right}
 use Rattle.mir_grammar.specs.Lexemes.{Lexeme, class_of, sign, word}
 use Rattle.mir_grammar.specs.Names.{Named}
-use Rattle.mir_grammar.specs.Types.{Family, Readers, AnyType, NoType, TypeLevel, type_at, any_word, FreePath, free_path_at, perhaps_token}
-use Rattle.mir_grammar.specs.Places.{Placed, PlaceBody, PlaceLevel, place_at, place_firsts, locals, to_place, to_local_place, place_body, Index, in_parentheses_at, InParentheses}
+use Rattle.mir_grammar.specs.Types.{Family, Readers, AnyType, TypeLevel, type_at, any_word, FreePath, free_path_at}
+use Rattle.mir_grammar.specs.Places.{Placed, PlaceBody, PlaceLevel, place_at, place_firsts, locals, to_place, to_local_place, place_body, Index, in_parentheses_at}
 use Rattle.mir_grammar.specs.Values.{operand_firsts, tuple_seconds}
-use Rattle.mir_grammar.specs.Blocks.{Kept, EndingAt, Body, CleanupBody, LinePart, CleanupLine, line_at, cleanup_line_at, WordTerminator, to_return, statement_words, terminator_words}
-use Rattle.mir_grammar.specs.Functions.{any_token, debug_tokens, scope_tokens, to_declared, one_item, no_items, concat, to_items, Items, DeclaredPart, Let, Debug, ItemPart, ScopeName, inner_items, Scope, ScopeLevel, to_block, kept_body, cleanup_body, Braces, BlockPart, to_function, Parameters, Inside, FunctionPart, Text, TypeHole, HoledText, declared_at, let_at, debug_at, item_at, item_words, items_at, scope_name_at, scope_body, scope_at, braces_at, block_at, parameters_at, inside_at, function_at, text_at, answer, EachAnswerIsRight, TypeText, PathText, PlaceText, type_answer, path_answer, place_answer, EachTypeIsRight, EachPathIsRight, EachPlaceIsRight}
+use Rattle.mir_grammar.specs.Blocks.{Body, CleanupBody, LinePart, line_at, cleanup_line_at, to_return, statement_words, terminator_words}
+use Rattle.mir_grammar.specs.Functions.{debug_tokens, scope_tokens, to_declared, one_item, no_items, to_items, Items, DeclaredPart, Let, Debug, ItemPart, ScopeName, inner_items, Scope, ScopeLevel, to_block, kept_body, cleanup_body, BlockPart, to_function, Parameters, Inside, FunctionPart, Text, TypeHole, HoledText, declared_at, let_at, debug_at, item_at, item_words, items_at, scope_name_at, scope_body, scope_at, block_at, parameters_at, inside_at, function_at, text_at, answer, EachAnswerIsRight, PathText, PlaceText, type_answer, path_answer, place_answer, EachTypeIsRight, EachPathIsRight, EachPlaceIsRight}
 use Rattle.mir_grammar.proofs.Samples.{name, plain_number, plain_number_class}
-use Rattle.mir_grammar.proofs.TypeReady.{near, far, AllReady, word_path_ready}
-use Rattle.mir_grammar.proofs.TypeLevels.{Hole, close, type_ready, near_type_ready}
-use Rattle.mir_grammar.proofs.PlaceReady.{flat, far_place, TypeReady, PlaceReady, PlaceHole, number-ready, place_ready, place_body_ready, in_parentheses_ready, index_ready}
+use Rattle.mir_grammar.proofs.TypeReady.{near, AllReady, word_path_ready}
+use Rattle.mir_grammar.proofs.TypeLevels.{close, type_ready, near_type_ready}
+use Rattle.mir_grammar.proofs.PlaceReady.{flat, TypeReady, PlaceReady, PlaceHole, number-ready, place_ready, place_body_ready, in_parentheses_ready, index_ready}
 use Rattle.mir_grammar.proofs.ValueReady.{PlaceKit}
 use Rattle.mir_grammar.proofs.BlockReady.{label, local, line_ready, cleanup_line_ready}
 use Rattle.mir_grammar.proofs.Lines.{body_on, body_off, cleanup_body_on, cleanup_body_off}
@@ -37,7 +37,7 @@ place_moves : {m : ℕ} {x : List Lexeme} {T U : Part Lexeme Named} {S : List Le
 unfolding place_body class_of
 place_moves {m} {x} {T} {U} {S} {t} {u} {R} {W} {H} {p} {w} i r = moves-guard class_of (1 ∷ []) place_firsts _ refl (moves-made class_of (1 ∷ []) to_place _ (moves-joined class_of (1 ∷ []) _ _
     (moves-right class_of (1 ∷ []) locals _ _ refl (moves-made class_of (1 ∷ []) (λ v. v.1) _ (moves-joined class_of (1 ∷ []) (tok class_of (1 ∷ [])) (ended class_of (in_parentheses_at t p) (2 ∷ [])) (moves-tok class_of (1 ∷ []) (1 ∷ []) refl)
-      (left_short (ended-ready (2 ∷ []) (sign (codes ")")) refl (in_parentheses_ready i r) refl).laws))))
+    (left_short (ended-ready (2 ∷ []) (sign (codes ")")) refl (in_parentheses_ready i r) refl).laws))))
     (left_short (many-ready {c = class_of} {m = m} {x = x} (3 ∷ []) (index_ready m x) refl).laws)))
 
 place_seen : {m : ℕ} {x : List Lexeme} {T U : Part Lexeme Named} {S : List Lexeme → Part Lexeme Named} {t u : Reader Lexeme Named} {R W : Part Lexeme Placed} {H : List Lexeme → Part Lexeme Placed} {p w : Reader Lexeme Placed}
@@ -101,8 +101,31 @@ scope_body_ready {m} {x} i r = wider-ready _ (made-ready inner_items (past-ready
 -- scope 1 { }
 scope_goes : (z : Lexeme → Bool) (T : Part Lexeme Named) (S : Part Lexeme Items) (t : Lexeme) → has (178 ∷ []) (class_of t) ≡ true → Goes z (Scope T S) (t ∷ [])
 unfolding inside class_of
-scope_goes z T S t h = (plain_number ∷ sign (codes "{") ∷ sign (codes "}") ∷ [], to_items [], λ k n. ((plain_number, ([], to_items [])), refl, ((t, (plain_number, ([], to_items []))), refl, (_, (h, refl), (_, (rw plain_number_class refl, refl), (_, inr (refl, refl),
-    ((sign (codes "{"), to_items []), refl, (sign (codes "}") ∷ k, (refl, refl), ((to_items [], sign (codes "}")), refl, (sign (codes "}") ∷ k, ([], refl, refl), (refl, refl)))))))))))
+scope_goes z T S t h = (
+  plain_number ∷ sign (codes "{") ∷ sign (codes "}") ∷ [],
+  to_items [],
+  λ k n. (
+    (plain_number, ([], to_items [])),
+    refl,
+    (
+      (t, (plain_number, ([], to_items []))),
+      refl,
+      (
+        _,
+        (h, refl),
+        (
+          _,
+          (rw plain_number_class refl, refl),
+          (
+            _,
+            inr (refl, refl),
+            ((sign (codes "{"), to_items []), refl, (sign (codes "}") ∷ k, (refl, refl), ((to_items [], sign (codes "}")), refl, (sign (codes "}") ∷ k, ([], refl, refl), (refl, refl))))),
+          ),
+        ),
+      ),
+    ),
+  ),
+)
 
 scope_sentence : (z : Lexeme → Bool) (T : Part Lexeme Named) (S : Part Lexeme Items) → Goes z (Scope T S) []
 unfolding class_of

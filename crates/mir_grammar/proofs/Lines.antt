@@ -1,6 +1,6 @@
 -- The lines that are read are the statements and the terminator of a block.
-use Rattle.std.proofs.Common.{◌≡◌, ◌⊎◌, inl, inr, ℕ, Bool, List, [], ◌∷◌, Option, Some, None, refl, sym, subst, ap}
-use Rattle.grammar_words.specs.Grammar.{Part, Then, Made, Either, Each, Next, More, Last, Until}
+use Rattle.std.proofs.Common.{◌≡◌, inl, inr, List, [], ◌∷◌, Option, Some, None, refl, subst, ap}
+use Rattle.grammar_words.specs.Grammar.{Part, Either, Each, Next, More, Last, Until}
 use Rattle.grammar_words.specs.Classes.{Tok, Past, Ended}
 use Rattle.grammar_words.proofs.Spelled.{Within}
 use Rattle.grammar_words.proofs.Until.{Lines}
@@ -10,8 +10,8 @@ use Rattle.mir_grammar.specs.Lexemes.{Lexeme, class_of}
 use Rattle.mir_grammar.specs.Names.{Named}
 use Rattle.mir_grammar.specs.Types.{Family}
 use Rattle.mir_grammar.specs.Places.{Placed}
-use Rattle.mir_grammar.specs.Values.{Limited, Value, Operands, FormedValue, RvalueOf, ValuePath, Fields, to_path_unit, to_path_tuple, to_path_fields}
-use Rattle.mir_grammar.specs.Blocks.{Kept, EndingAt, Called, Target, Line, PathTail, UnitTail, FieldTail, OperandTail, unit_tail, operand_tail, to_path_line, to_assign_line, to_assign, to_call, Arrow, TargetPart, CallEnd, PathRest, FormedLine, PathLine, ValueLine, LinePart, CleanupLine, WordStatement, WordTerminator, StatementOf, TerminatorOf, Body, CleanupBody, Resumed, CallRest, ValueOf, LineOf, CleanupOf}
+use Rattle.mir_grammar.specs.Values.{Limited, Value, Operands, RvalueOf, ValuePath, Fields, to_path_unit, to_path_tuple, to_path_fields}
+use Rattle.mir_grammar.specs.Blocks.{Kept, EndingAt, Called, Target, Line, PathTail, UnitTail, FieldTail, OperandTail, to_path_line, to_assign_line, CallEnd, PathRest, ValueLine, LinePart, CleanupLine, StatementOf, TerminatorOf, Body, CleanupBody, Resumed, CallRest, ValueOf, LineOf, CleanupOf}
 
 -- Values.
 

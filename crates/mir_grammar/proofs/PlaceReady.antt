@@ -1,7 +1,7 @@
 -- Places are ready.
-use Rattle.std.proofs.Common.{◌≡◌, ◌⊎◌, inl, inr, ℕ, zero, suc, ◌+◌, ◌≤◌, Bool, true, false, List, [], ◌∷◌, ◌++◌, codes, refl, arith}
-use Rattle.grammar_words.specs.Grammar.{Part, Then, Made, Either, Each, Never, At}
-use Rattle.grammar_words.specs.Reading.{Reader, guard, deep}
+use Rattle.std.proofs.Common.{◌≡◌, inl, inr, ℕ, zero, suc, ◌+◌, ◌≤◌, Bool, true, false, List, [], ◌∷◌, codes, refl, arith}
+use Rattle.grammar_words.specs.Grammar.{Part, Each, Never, At}
+use Rattle.grammar_words.specs.Reading.{Reader}
 use Rattle.grammar_words.specs.Classes.{has, inside, outside, Tok, tok}
 use Rattle.grammar_words.proofs.Sets.{subset_has}
 use Rattle.grammar_words.proofs.Laws.{Goes}
@@ -13,8 +13,8 @@ use Rattle.grammar_words.proofs.ReadyLimit.{limit_shape, limit-ready, guard-read
 use Rattle.grammar_words.proofs.Starts.{Starts, starts-tok, starts-made, starts-then, starts-past, starts-either, starts-opens, one_of}
 use Rattle.mir_grammar.specs.Lexemes.{Lexeme, class_of, sign, word}
 use Rattle.mir_grammar.specs.Names.{Named}
-use Rattle.mir_grammar.specs.Types.{Want, AnyType, any_word}
-use Rattle.mir_grammar.specs.Places.{Placed, Stepped, to_local_place, to_stepped, to_place, to_deref, to_field, to_downcast, to_index, to_front, to_back, locals, place_firsts, NumberOf, IndexInside, Index, Selector, InParentheses, Base, PlaceBody, PlaceLevel, number_of_at, index_inside_at, index_at, selector_at, in_parentheses_at, base_at, place_body, place_at}
+use Rattle.mir_grammar.specs.Types.{AnyType, any_word}
+use Rattle.mir_grammar.specs.Places.{Placed, to_local_place, to_stepped, to_place, to_deref, to_field, to_downcast, to_index, to_front, to_back, locals, place_firsts, NumberOf, IndexInside, Index, Selector, InParentheses, Base, PlaceBody, PlaceLevel, number_of_at, index_inside_at, index_at, selector_at, in_parentheses_at, base_at, place_body, place_at}
 use Rattle.mir_grammar.proofs.Samples.{plain_number, plain_number_class, name}
 use Rattle.mir_grammar.proofs.TypeReady.{far, near}
 
@@ -81,14 +81,41 @@ local_goes z T P t h = ([], to_place (to_local_place t, []), λ k n. ((to_local_
 deref_goes : (z : Lexeme → Bool) (T : Part Lexeme Named) (P : Part Lexeme Placed) (t : Lexeme) → has (1 ∷ []) (class_of t) ≡ true → Goes z (PlaceBody T (PlaceBody T P)) (t ∷ [])
 unfolding inside class_of
 deref_goes z T P t h =
-    let inner = to_place (to_local_place local, []) in
-    (sign (codes "*") ∷ local ∷ sign (codes ")") ∷ [], to_place (to_deref inner, []), λ k n. ((to_deref inner, []), refl, (k, inr ((t, to_deref inner), refl, (_, (h, refl), ((to_deref inner, sign (codes ")")), refl, (sign (codes ")") ∷ k,
-      inl (inner, refl, ((sign (codes "*"), inner), refl, (local ∷ sign (codes ")") ∷ k, (refl, refl), ((to_local_place local, []), refl, (sign (codes ")") ∷ k, inl (local, refl, (refl, refl)), refl))))), (refl, refl))))), refl)))
+    let inner = to_place (to_local_place local, []) in (
+      sign (codes "*") ∷ local ∷ sign (codes ")") ∷ [],
+      to_place (to_deref inner, []),
+      λ k n. (
+        (to_deref inner, []),
+        refl,
+        (
+          k,
+          inr (
+            (t, to_deref inner),
+            refl,
+            (
+              _,
+              (h, refl),
+              (
+                (to_deref inner, sign (codes ")")),
+                refl,
+                (
+                  sign (codes ")") ∷ k,
+                  inl (inner, refl, ((sign (codes "*"), inner), refl, (local ∷ sign (codes ")") ∷ k, (refl, refl), ((to_local_place local, []), refl, (sign (codes ")") ∷ k, inl (local, refl, (refl, refl)), refl))))),
+                  (refl, refl),
+                ),
+              ),
+            ),
+          ),
+          refl,
+        ),
+      ),
+    )
 
 each_place_first : (z : Lexeme → Bool) (T : Part Lexeme Named) (e : ℕ) (t : Lexeme) → has place_firsts (class_of t) ≡ true → Goes z (PlaceLevel Never T (suc (suc e))) (t ∷ [])
 each_place_first z T e t h = elim (one_of 30 (class_of t) (31 ∷ 1 ∷ []) h) [
-    inl i ↦ local_goes z T (PlaceLevel Never T (suc e)) t (subset_has (30 ∷ []) locals (class_of t) refl i)
-    | inr i ↦ elim (one_of 31 (class_of t) (1 ∷ []) i) [ inl j ↦ local_goes z T (PlaceLevel Never T (suc e)) t (subset_has (31 ∷ []) locals (class_of t) refl j) | inr j ↦ deref_goes z T (PlaceLevel Never T e) t j ] ]
+  | inl i ↦ local_goes z T (PlaceLevel Never T (suc e)) t (subset_has (30 ∷ []) locals (class_of t) refl i)
+  | inr i ↦ elim (one_of 31 (class_of t) (1 ∷ []) i) [ inl j ↦ local_goes z T (PlaceLevel Never T (suc e)) t (subset_has (31 ∷ []) locals (class_of t) refl j) | inr j ↦ deref_goes z T (PlaceLevel Never T e) t j ]
+]
 
 place_sentence : (z : Lexeme → Bool) (T : Part Lexeme Named) (e : ℕ) → Goes z (PlaceLevel Never T (suc (suc e))) []
 unfolding class_of

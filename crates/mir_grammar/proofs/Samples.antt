@@ -1,7 +1,6 @@
 -- A token of each class that the productions name.
-use Rattle.std.proofs.Common.{◌≡◌, ℕ, true, List, [], ◌∷◌, codes, refl}
-use Rattle.grammar_words.specs.Classes.{has}
-use Rattle.mir_grammar.specs.Lexemes.{Lexeme, class_of, sign, word, number, number_value, number_type}
+use Rattle.std.proofs.Common.{◌≡◌, codes, refl}
+use Rattle.mir_grammar.specs.Lexemes.{Lexeme, class_of, word, number, number_value, number_type}
 use Rattle.mir_ir.specs.Names as names
 use Rattle.mir_lex.specs.declared.token.TokenKind.TheVariants as kind
 

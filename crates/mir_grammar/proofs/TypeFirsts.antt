@@ -1,15 +1,15 @@
 -- Each token that may come first begins a type.
-use Rattle.std.proofs.Common.{◌≡◌, ◌⊎◌, inl, inr, ℕ, zero, suc, Bool, true, false, ◌||◌, if◌then◌else◌, List, [], ◌∷◌, ◌++◌, codes, Option, Some, None, refl, sym, ◌∙◌, ap, subst}
+use Rattle.std.proofs.Common.{◌≡◌, ◌⊎◌, inl, inr, ℕ, suc, Bool, true, false, ◌||◌, if◌then◌else◌, List, [], ◌∷◌, codes, None, refl, sym, ◌∙◌, ap, subst}
 use Rattle.std.proofs.lemmas.Bool.{eqb-true}
 use Rattle.std.specs.Prelude.{◌==◌}
 use Rattle.grammar_words.specs.Grammar.{Part, Either}
 use Rattle.grammar_words.specs.Classes.{has, inside}
 use Rattle.grammar_words.proofs.Laws.{Goes}
 use Rattle.grammar_words.proofs.Sets.{has_append}
-use Rattle.grammar_words.proofs.Starts.{Starts, starts-tok, starts-made, starts-then, starts-past, starts-either, one_of}
+use Rattle.grammar_words.proofs.Starts.{one_of}
 use Rattle.mir_grammar.specs.Lexemes.{Lexeme, class_of, sign, word}
-use Rattle.mir_grammar.specs.Names.{Named, to_path, to_keyed_path, to_plain, to_tuple, to_array, to_ref, to_raw, to_dyn, to_mut_path, to_qualified, word_head, impl_head, word_step, named_head}
-use Rattle.mir_grammar.specs.Types.{Family, Want, AnyType, NotMut, BehindMut, Qualified, any_word, colons, type_names, type_words, path_words, path_words_but_mut, firsts_of, type_firsts, formed_firsts, without, FreePath, KeyedSteps, PathFrom, FormedType, TypeBody, TypeLevel, NoType, unmarked}
+use Rattle.mir_grammar.specs.Names.{Named, to_path, to_plain, to_tuple, to_array, to_ref, to_raw, to_dyn, to_mut_path, to_qualified, word_head, impl_head, word_step, named_head}
+use Rattle.mir_grammar.specs.Types.{Family, Want, AnyType, NotMut, BehindMut, Qualified, any_word, colons, type_names, type_words, path_words, path_words_but_mut, firsts_of, type_firsts, without, FreePath, KeyedSteps, PathFrom, FormedType, TypeLevel, NoType}
 use Rattle.mir_grammar.proofs.Samples.{name}
 
 has_without_step : (x n : ℕ) (set xs : List ℕ) (b c : Bool) → has set x ≡ b → (x == n) ≡ c → (if c then true else has xs n) ≡ true → (has xs n ≡ true → (has set n ≡ true) ⊎ (has (without set xs) n ≡ true))
@@ -61,9 +61,19 @@ qualified : (e : ℕ) (t : Lexeme) (k : List Lexeme) → has (7 ∷ []) (class_o
     → TypeLevel NoType (suc (suc e)) Qualified (t ∷ bool_word ∷ word (codes "as") ∷ name ∷ sign (codes ">") ∷ k) (to_qualified (t, (to_plain bool_word, to_path (word_head name, [])))) k
 unfolding class_of inside
 qualified e t k h =
-    let path = to_path (word_head name, []) in
-    ((t, (to_plain bool_word, path)), refl, (_, (h, refl), (_, any_bool e (word (codes "as") ∷ name ∷ sign (codes ">") ∷ k),
-      ((word (codes "as"), path), refl, (_, (refl, refl), ((path, sign (codes ">")), refl, (_, one_word any_word (TypeLevel NoType (suc e)) name (sign (codes ">") ∷ k) refl, (refl, refl))))))))
+    let path = to_path (word_head name, []) in (
+      (t, (to_plain bool_word, path)),
+      refl,
+      (
+        _,
+        (h, refl),
+        (
+          _,
+          any_bool e (word (codes "as") ∷ name ∷ sign (codes ">") ∷ k),
+          ((word (codes "as"), path), refl, (_, (refl, refl), ((path, sign (codes ">")), refl, (_, one_word any_word (TypeLevel NoType (suc e)) name (sign (codes ">") ∷ k) refl, (refl, refl))))),
+        ),
+      ),
+    )
 
 -- Behind each first token: what goes on to a type that is no path.
 
@@ -76,23 +86,71 @@ plain_first e z t h = ([], to_plain t, λ k n. inl (t, refl, (h, refl)))
 
 tuple_first : (e : ℕ) (z : Lexeme → Bool) (t : Lexeme) → has (1 ∷ []) (class_of t) ≡ true → Goes z (Formed e) (t ∷ [])
 unfolding class_of inside Formed
-tuple_first e z t h = (sign (codes ")") ∷ [], to_tuple ([], false), λ k n. inr (inl (([], false), refl, ((t, ([], false)), refl, (sign (codes ")") ∷ k, (h, refl),
-    ((([], false), sign (codes ")")), refl, (sign (codes ")") ∷ k, (sign (codes ")") ∷ k, inr (refl, refl), inr (refl, refl)), (refl, refl))))))))
+tuple_first e z t h = (
+  sign (codes ")") ∷ [],
+  to_tuple ([], false),
+  λ k n. inr (inl (
+    ([], false),
+    refl,
+    (
+      (t, ([], false)),
+      refl,
+      (
+        sign (codes ")") ∷ k,
+        (h, refl),
+        ((([], false), sign (codes ")")), refl, (sign (codes ")") ∷ k, (sign (codes ")") ∷ k, inr (refl, refl), inr (refl, refl)), (refl, refl))),
+      ),
+    ),
+  )),
+)
 
 array_first : (e : ℕ) (z : Lexeme → Bool) (t : Lexeme) → has (3 ∷ []) (class_of t) ≡ true → Goes z (Formed e) (t ∷ [])
 unfolding class_of inside Formed
-array_first e z t h = (bool_word ∷ sign (codes "]") ∷ [], to_array (to_plain bool_word, None), λ k n. inr (inr (inl ((to_plain bool_word, None), refl, ((t, (to_plain bool_word, None)), refl,
-    (bool_word ∷ sign (codes "]") ∷ k, (h, refl), (sign (codes "]") ∷ k, any_bool e (sign (codes "]") ∷ k), inl (sign (codes "]"), refl, (refl, refl)))))))))
+array_first e z t h = (
+  bool_word ∷ sign (codes "]") ∷ [],
+  to_array (to_plain bool_word, None),
+  λ k n. inr (inr (inl (
+    (to_plain bool_word, None),
+    refl,
+    (
+      (t, (to_plain bool_word, None)),
+      refl,
+      (bool_word ∷ sign (codes "]") ∷ k, (h, refl), (sign (codes "]") ∷ k, any_bool e (sign (codes "]") ∷ k), inl (sign (codes "]"), refl, (refl, refl)))),
+    ),
+  ))),
+)
 
 ref_first : (e : ℕ) (z : Lexeme → Bool) (t : Lexeme) → has (15 ∷ []) (class_of t) ≡ true → Goes z (Formed e) (t ∷ [])
 unfolding class_of inside Formed
-ref_first e z t h = (bool_word ∷ [], to_ref (false, to_plain bool_word), λ k n. inr (inr (inr (inl ((false, to_plain bool_word), refl, ((t, (false, to_plain bool_word)), refl,
-    (bool_word ∷ k, (h, refl), ((false, (false, to_plain bool_word)), refl, (bool_word ∷ k, inr (refl, refl), inr (to_plain bool_word, refl, not_mut_bool e k))))))))))
+ref_first e z t h = (
+  bool_word ∷ [],
+  to_ref (false, to_plain bool_word),
+  λ k n. inr (inr (inr (inl (
+    (false, to_plain bool_word),
+    refl,
+    (
+      (t, (false, to_plain bool_word)),
+      refl,
+      (bool_word ∷ k, (h, refl), ((false, (false, to_plain bool_word)), refl, (bool_word ∷ k, inr (refl, refl), inr (to_plain bool_word, refl, not_mut_bool e k)))),
+    ),
+  )))),
+)
 
 raw_first : (e : ℕ) (z : Lexeme → Bool) (t : Lexeme) → has (16 ∷ []) (class_of t) ≡ true → Goes z (Formed e) (t ∷ [])
 unfolding class_of inside Formed
-raw_first e z t h = (word (codes "const") ∷ bool_word ∷ [], to_raw (false, to_plain bool_word), λ k n. inr (inr (inr (inr (inl ((false, to_plain bool_word), refl, ((t, (false, to_plain bool_word)), refl,
-    (word (codes "const") ∷ bool_word ∷ k, (h, refl), inr ((word (codes "const"), (false, to_plain bool_word)), refl, (bool_word ∷ k, (refl, refl), (to_plain bool_word, refl, any_bool e k)))))))))))
+raw_first e z t h = (
+  word (codes "const") ∷ bool_word ∷ [],
+  to_raw (false, to_plain bool_word),
+  λ k n. inr (inr (inr (inr (inl (
+    (false, to_plain bool_word),
+    refl,
+    (
+      (t, (false, to_plain bool_word)),
+      refl,
+      (word (codes "const") ∷ bool_word ∷ k, (h, refl), inr ((word (codes "const"), (false, to_plain bool_word)), refl, (bool_word ∷ k, (refl, refl), (to_plain bool_word, refl, any_bool e k)))),
+    ),
+  ))))),
+)
 
 dyn_first : (e : ℕ) (z : Lexeme → Bool) (t : Lexeme) → has (115 ∷ []) (class_of t) ≡ true → Goes z (Formed e) (t ∷ [])
 unfolding class_of inside Formed
@@ -132,28 +190,49 @@ signs_first : (e : ℕ) (words more : List ℕ) (z : Lexeme → Bool) (t : Lexem
 signs_first e words more z t h rest =
     let T = TypeLevel NoType (suc (suc e)) in
     let P = PathFrom type_words words T in
-    elim (one_of 17 (class_of t) (1 ∷ 3 ∷ 15 ∷ 16 ∷ 43 ∷ 7 ∷ more) h) [ inl i ↦ above_formed (suc e) z t P (plain_first (suc e) z t (starts_with t i)) | inr h₁ ↦
-    elim (one_of 1 (class_of t) (3 ∷ 15 ∷ 16 ∷ 43 ∷ 7 ∷ more) h₁) [ inl i ↦ above_formed (suc e) z t P (tuple_first (suc e) z t i) | inr h₂ ↦
-    elim (one_of 3 (class_of t) (15 ∷ 16 ∷ 43 ∷ 7 ∷ more) h₂) [ inl i ↦ above_formed (suc e) z t P (array_first (suc e) z t i) | inr h₃ ↦
-    elim (one_of 15 (class_of t) (16 ∷ 43 ∷ 7 ∷ more) h₃) [ inl i ↦ above_formed (suc e) z t P (ref_first (suc e) z t i) | inr h₄ ↦
-    elim (one_of 16 (class_of t) (43 ∷ 7 ∷ more) h₄) [ inl i ↦ above_formed (suc e) z t P (raw_first (suc e) z t i) | inr h₅ ↦
-    elim (one_of 43 (class_of t) (7 ∷ more) h₅) [ inl i ↦ above_path words T z t (impl_first words T z t i) | inr h₆ ↦
-    elim (one_of 7 (class_of t) more h₆) [ inl i ↦ above_path words T z t (angle_first words e z t i) | inr h₇ ↦ rest h₇ ] ] ] ] ] ] ]
+    elim (one_of 17 (class_of t) (1 ∷ 3 ∷ 15 ∷ 16 ∷ 43 ∷ 7 ∷ more) h) [
+      | inl i ↦ above_formed (suc e) z t P (plain_first (suc e) z t (starts_with t i))
+      | inr h₁ ↦
+          elim (one_of 1 (class_of t) (3 ∷ 15 ∷ 16 ∷ 43 ∷ 7 ∷ more) h₁) [
+            | inl i ↦ above_formed (suc e) z t P (tuple_first (suc e) z t i)
+            | inr h₂ ↦
+                elim (one_of 3 (class_of t) (15 ∷ 16 ∷ 43 ∷ 7 ∷ more) h₂) [
+                  | inl i ↦ above_formed (suc e) z t P (array_first (suc e) z t i)
+                  | inr h₃ ↦
+                      elim (one_of 15 (class_of t) (16 ∷ 43 ∷ 7 ∷ more) h₃) [
+                        | inl i ↦ above_formed (suc e) z t P (ref_first (suc e) z t i)
+                        | inr h₄ ↦
+                            elim (one_of 16 (class_of t) (43 ∷ 7 ∷ more) h₄) [
+                              | inl i ↦ above_formed (suc e) z t P (raw_first (suc e) z t i)
+                              | inr h₅ ↦
+                                  elim (one_of 43 (class_of t) (7 ∷ more) h₅) [
+                                    | inl i ↦ above_path words T z t (impl_first words T z t i)
+                                    | inr h₆ ↦
+                                        elim (one_of 7 (class_of t) more h₆) [ inl i ↦ above_path words T z t (angle_first words e z t i) | inr h₇ ↦ rest h₇ ]
+                                  ]
+                            ]
+                      ]
+                ]
+          ]
+    ]
 
 type_words_first : (e : ℕ) (z : Lexeme → Bool) (t : Lexeme) (P : Part Lexeme Named) → has type_words (class_of t) ≡ true → Goes z (Either (FormedType (TypeLevel NoType (suc e))) P) (t ∷ [])
 type_words_first e z t P h = elim (or_case _ _ (sym (has_append type_names (115 ∷ []) (class_of t)) ∙ h)) [
-    inl i ↦ above_formed e z t P (plain_first e z t (ends_with t i))
-    | inr i ↦ above_formed e z t P (dyn_first e z t i) ]
+  | inl i ↦ above_formed e z t P (plain_first e z t (ends_with t i))
+  | inr i ↦ above_formed e z t P (dyn_first e z t i)
+]
 
 any_firsts : (e : ℕ) (z : Lexeme → Bool) (t : Lexeme) → has type_firsts (class_of t) ≡ true → Goes z (TypeLevel NoType (suc (suc (suc e))) AnyType) (t ∷ [])
 any_firsts e z t h = signs_first e path_words any_word z t h (λ w. elim (has_without type_words any_word (class_of t) w) [
-    inl i ↦ type_words_first (suc e) z t (PathFrom type_words path_words (TypeLevel NoType (suc (suc e)))) i
-    | inr i ↦ above_path path_words (TypeLevel NoType (suc (suc e))) z t (word_first path_words (TypeLevel NoType (suc (suc e))) z t i) ])
+  | inl i ↦ type_words_first (suc e) z t (PathFrom type_words path_words (TypeLevel NoType (suc (suc e)))) i
+  | inr i ↦ above_path path_words (TypeLevel NoType (suc (suc e))) z t (word_first path_words (TypeLevel NoType (suc (suc e))) z t i)
+])
 
 not_mut_firsts : (e : ℕ) (z : Lexeme → Bool) (t : Lexeme) → has (firsts_of NotMut) (class_of t) ≡ true → Goes z (TypeLevel NoType (suc (suc (suc e))) NotMut) (t ∷ [])
 not_mut_firsts e z t h = signs_first e path_words_but_mut (without (117 ∷ []) any_word) z t h (λ w. elim (has_without type_words (without (117 ∷ []) any_word) (class_of t) w) [
-    inl i ↦ type_words_first (suc e) z t (PathFrom type_words path_words_but_mut (TypeLevel NoType (suc (suc e)))) i
-    | inr i ↦ above_path path_words_but_mut (TypeLevel NoType (suc (suc e))) z t (word_first path_words_but_mut (TypeLevel NoType (suc (suc e))) z t i) ])
+  | inl i ↦ type_words_first (suc e) z t (PathFrom type_words path_words_but_mut (TypeLevel NoType (suc (suc e)))) i
+  | inr i ↦ above_path path_words_but_mut (TypeLevel NoType (suc (suc e))) z t (word_first path_words_but_mut (TypeLevel NoType (suc (suc e))) z t i)
+])
 
 pub each_first : (e : ℕ) (z : Lexeme → Bool) (want : Want) (t : Lexeme) → has (firsts_of want) (class_of t) ≡ true → Goes z (TypeLevel NoType (suc (suc (suc e))) want) (t ∷ [])
 each_first e z AnyType t h = any_firsts e z t h

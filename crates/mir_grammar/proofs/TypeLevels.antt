@@ -1,35 +1,35 @@
 -- Types and paths at each limit are ready.
-use Rattle.std.proofs.Common.{◌≡◌, ℕ, zero, suc, ◌+◌, ◌≤◌, Bool, true, false, List, [], ◌∷◌, ◌++◌, if◌then◌else◌, codes, refl, ap, arith}
-use Rattle.grammar_words.specs.Grammar.{Part, Then, Made, Either, Each, At}
-use Rattle.grammar_words.specs.Reading.{Reader, choose, guard, deep}
-use Rattle.grammar_words.specs.Classes.{has, inside, outside, Tok, tok, Past, bare}
-use Rattle.grammar_words.proofs.Ready.{Shape, Ready, tok-ready, made-ready, wider-ready}
+use Rattle.std.proofs.Common.{◌≡◌, ℕ, zero, suc, ◌+◌, ◌≤◌, true, false, List, [], ◌∷◌, ◌++◌, if◌then◌else◌, refl, ap, arith}
+use Rattle.grammar_words.specs.Grammar.{Made, Each, At}
+use Rattle.grammar_words.specs.Reading.{guard}
+use Rattle.grammar_words.specs.Classes.{has, inside, outside, tok}
+use Rattle.grammar_words.proofs.Ready.{Shape, Ready, made-ready, wider-ready}
 use Rattle.grammar_words.proofs.ReadyJoin.{left_short}
 use Rattle.grammar_words.proofs.ReadyLimit.{limit_shape, limit-ready, guard-ready}
-use Rattle.grammar_words.proofs.Fork.{Moves, Seen, moves-tok, moves-made, moves-joined, moves-left, moves-right, moves-both, fork-ready, fork_shape}
+use Rattle.grammar_words.proofs.Fork.{Moves, Seen, moves-tok, moves-made, moves-joined, moves-left, moves-right, moves-both, fork-ready}
 use Rattle.grammar_words.proofs.Seen.{seen-apart, seen-alone, seen-token, seen-behind, seen-before, seen-made, seen-either}
-use Rattle.mir_grammar.specs.Lexemes.{Lexeme, class_of, sign, word}
-use Rattle.mir_grammar.specs.Names.{Named, to_path, to_keyed_path, to_plain, to_dyn, to_mut_path, to_qualified, to_tuple, to_array, to_ref, to_raw, word_head, impl_head, named_head}
-use Rattle.mir_grammar.specs.Types.{Family, Readers, Want, AnyType, NotMut, BehindMut, Qualified, any_word, colons, type_names, type_words, path_words, path_words_but_mut, firsts_of, type_firsts, formed_firsts, without, PathStep, FreePath, KeyedPath, KeyedSteps, PathFrom, PlainType, DynType, FormedType, keyed_steps_at, free_path_at, keyed_path_at, path_from_at, dyn_at, formed_at, tuple_at, array_at, ref_at, raw_at, plain_at, TypeBody, type_body, TypeLevel, NoType, type_at}
+use Rattle.mir_grammar.specs.Lexemes.{Lexeme, class_of}
+use Rattle.mir_grammar.specs.Names.{to_path, to_keyed_path, to_plain, to_dyn, to_mut_path, to_qualified, to_tuple, to_array, to_ref, to_raw, word_head, impl_head, named_head}
+use Rattle.mir_grammar.specs.Types.{Family, Readers, Want, AnyType, NotMut, BehindMut, Qualified, any_word, colons, type_names, type_words, path_words, path_words_but_mut, firsts_of, type_firsts, formed_firsts, PathStep, FreePath, KeyedSteps, PathFrom, FormedType, keyed_steps_at, free_path_at, keyed_path_at, path_from_at, dyn_at, formed_at, tuple_at, array_at, ref_at, raw_at, plain_at, TypeBody, type_body, TypeLevel, NoType, type_at}
 use Rattle.grammar_words.proofs.Sets.{subset}
 use Rattle.grammar_words.proofs.Starts.{Starts, starts-tok, starts-made, starts-then, starts-past, starts-either, starts-wider, starts-opens}
 use Rattle.mir_grammar.proofs.TypeFirsts.{each_first, each_sentence}
-use Rattle.mir_grammar.proofs.TypeReady.{type_stops, stops_of, far, near, AllReady, DynBody, dyn_body_at, dyn_body_ready, keyed_steps_ready, keyed_path_ready, type_path_ready, path_but_mut_ready, type_path_from_ready, path_from_but_mut_ready, qualified_ready, plain_ready, tuple_ready, array_ready, ref_ready, raw_ready, formed_ready}
+use Rattle.mir_grammar.proofs.TypeReady.{type_stops, stops_of, far, near, AllReady, dyn_body_at, dyn_body_ready, keyed_steps_ready, type_path_ready, path_but_mut_ready, type_path_from_ready, path_from_but_mut_ready, qualified_ready, tuple_ready, array_ready, ref_ready, raw_ready, formed_ready}
 
 -- the words of types are taken by both forms
 
 keyed_moves : {m : ℕ} {x : List Lexeme} {R W : Family} {H : List Lexeme → Family} {p w : Readers} → AllReady m x R W H p w → (words : List ℕ) → Moves class_of type_words (path_from_at m type_words words p)
 keyed_moves {m} {x} {R} {W} {H} {p} {w} r words =
     moves-left class_of type_words type_words (keyed_path_at m type_words p) (free_path_at m words p) refl
-      (moves-made class_of type_words to_keyed_path _ (moves-joined class_of type_words (tok class_of type_words) (keyed_steps_at m p) (moves-tok class_of type_words type_words refl) (left_short (keyed_steps_ready r).laws)))
+    (moves-made class_of type_words to_keyed_path _ (moves-joined class_of type_words (tok class_of type_words) (keyed_steps_at m p) (moves-tok class_of type_words type_words refl) (left_short (keyed_steps_ready r).laws)))
 
 formed_moves : {m : ℕ} {x : List Lexeme} {R W : Family} {H : List Lexeme → Family} {p w : Readers} → AllReady m x R W H p w → Moves class_of type_words (formed_at m p)
 formed_moves {m} {x} {R} {W} {H} {p} {w} r =
     moves-both class_of type_names (115 ∷ []) (formed_at m p)
-      (moves-left class_of type_names (17 ∷ type_names) plain_at _ refl (moves-made class_of type_names to_plain _ (moves-tok class_of type_names (17 ∷ type_names) refl)))
-      (moves-right class_of (115 ∷ []) (17 ∷ type_names) plain_at _ refl (moves-right class_of (115 ∷ []) (1 ∷ []) (tuple_at m p) _ refl (moves-right class_of (115 ∷ []) (3 ∷ []) (array_at p) _ refl
-        (moves-right class_of (115 ∷ []) (15 ∷ []) (ref_at p) _ refl (moves-right class_of (115 ∷ []) (16 ∷ []) (raw_at p) (dyn_at m p) refl
-          (moves-made class_of (115 ∷ []) to_dyn _ (moves-made class_of (115 ∷ []) (λ v. v.1) _ (moves-joined class_of (115 ∷ []) (tok class_of (115 ∷ [])) (dyn_body_at m p) (moves-tok class_of (115 ∷ []) (115 ∷ []) refl) (left_short (dyn_body_ready r).laws)))))))))
+    (moves-left class_of type_names (17 ∷ type_names) plain_at _ refl (moves-made class_of type_names to_plain _ (moves-tok class_of type_names (17 ∷ type_names) refl)))
+    (moves-right class_of (115 ∷ []) (17 ∷ type_names) plain_at _ refl (moves-right class_of (115 ∷ []) (1 ∷ []) (tuple_at m p) _ refl (moves-right class_of (115 ∷ []) (3 ∷ []) (array_at p) _ refl
+    (moves-right class_of (115 ∷ []) (15 ∷ []) (ref_at p) _ refl (moves-right class_of (115 ∷ []) (16 ∷ []) (raw_at p) (dyn_at m p) refl
+    (moves-made class_of (115 ∷ []) to_dyn _ (moves-made class_of (115 ∷ []) (λ v. v.1) _ (moves-joined class_of (115 ∷ []) (tok class_of (115 ∷ [])) (dyn_body_at m p) (moves-tok class_of (115 ∷ []) (115 ∷ []) refl) (left_short (dyn_body_ready r).laws)))))))))
 
 -- what two tokens tell
 
@@ -50,13 +50,13 @@ path_seen : {m : ℕ} {x : List Lexeme} {R W : Family} {H : List Lexeme → Fami
     → Seen class_of formed_firsts type_words colons (outside class_of (type_stops ++ 12 ∷ 7 ∷ [])) false (PathFrom type_words path_words (H y))
 path_seen {m} {x} r y =
     seen-either (seen-made to_keyed_path (seen-before (near (12 ∷ 7 ∷ []) colons) formed_firsts type_words colons type_words ((keyed_steps_ready r).opens_holed y) refl))
-      (seen-apart (near (12 ∷ 7 ∷ []) (43 ∷ 7 ∷ path_words)) formed_firsts type_words colons ((type_path_ready r).opens_holed y) refl)
+    (seen-apart (near (12 ∷ 7 ∷ []) (43 ∷ 7 ∷ path_words)) formed_firsts type_words colons ((type_path_ready r).opens_holed y) refl)
 
 path_but_mut_seen : {m : ℕ} {x : List Lexeme} {R W : Family} {H : List Lexeme → Family} {p w : Readers} → AllReady m x R W H p w → (y : List Lexeme)
     → Seen class_of formed_firsts type_words colons (outside class_of (type_stops ++ 12 ∷ 7 ∷ [])) false (PathFrom type_words path_words_but_mut (H y))
 path_but_mut_seen {m} {x} r y =
     seen-either (seen-made to_keyed_path (seen-before (near (12 ∷ 7 ∷ []) colons) formed_firsts type_words colons type_words ((keyed_steps_ready r).opens_holed y) refl))
-      (seen-apart (near (12 ∷ 7 ∷ []) (43 ∷ 7 ∷ path_words_but_mut)) formed_firsts type_words colons ((path_but_mut_ready r).opens_holed y) refl)
+    (seen-apart (near (12 ∷ 7 ∷ []) (43 ∷ 7 ∷ path_words_but_mut)) formed_firsts type_words colons ((path_but_mut_ready r).opens_holed y) refl)
 
 guard_body : (m : ℕ) (x : List Lexeme) (R W : Family) (H : List Lexeme → Family) (p w : Readers) (k : Want) → Ready class_of m (far k) x (TypeBody R k) (TypeBody W k) (λ y. TypeBody (H y) k) (type_body m p k) (type_body m w k)
     → Ready class_of m (far k) x (TypeBody R k) (TypeBody W k) (λ y. TypeBody (H y) k) (guard (inside class_of (firsts_of k)) (type_body m p k)) (guard (inside class_of (firsts_of k)) (type_body m w k))
@@ -109,10 +109,10 @@ head_starts (suc d) = starts-made to_qualified (starts-then _ (starts-tok class_
 level_starts : (d : ℕ) (want : Want) → Starts class_of (firsts_of want) (TypeLevel NoType (suc d) want)
 level_starts d AnyType = starts-either (formed_starts type_firsts (TypeLevel NoType d) refl)
     (starts-either (starts-made to_keyed_path (starts-then (KeyedSteps (TypeLevel NoType d)) (starts-tok class_of type_firsts type_words refl)))
-      (path_starts type_firsts path_words (TypeLevel NoType d) refl refl (starts-made named_head (starts-wider (7 ∷ []) type_firsts refl (head_starts d)))))
+    (path_starts type_firsts path_words (TypeLevel NoType d) refl refl (starts-made named_head (starts-wider (7 ∷ []) type_firsts refl (head_starts d)))))
 level_starts d NotMut = starts-either (formed_starts (firsts_of NotMut) (TypeLevel NoType d) refl)
     (starts-either (starts-made to_keyed_path (starts-then (KeyedSteps (TypeLevel NoType d)) (starts-tok class_of (firsts_of NotMut) type_words refl)))
-      (path_starts (firsts_of NotMut) path_words_but_mut (TypeLevel NoType d) refl refl (starts-made named_head (starts-wider (7 ∷ []) (firsts_of NotMut) refl (head_starts d)))))
+    (path_starts (firsts_of NotMut) path_words_but_mut (TypeLevel NoType d) refl refl (starts-made named_head (starts-wider (7 ∷ []) (firsts_of NotMut) refl (head_starts d)))))
 level_starts d BehindMut = starts-made to_mut_path (starts-made (λ v. v.0 ∷ v.1) (starts-then (Each (PathStep (TypeLevel NoType d))) (starts-past class_of colons colons _ refl)))
 level_starts d Qualified = head_starts (suc d)
 

@@ -1,17 +1,16 @@
 -- Types and paths are ready.
-use Rattle.std.proofs.Common.{◌≡◌, ℕ, Bool, true, false, List, [], ◌∷◌, ◌++◌, codes, Option, Some, None, refl, sym}
+use Rattle.std.proofs.Common.{ℕ, true, false, List, [], ◌∷◌, codes, Some, None, refl}
 use Rattle.grammar_words.specs.Grammar.{Part, Then, Made, Each}
 use Rattle.grammar_words.specs.Reading.{Reader, joined, made, cons, first, second}
-use Rattle.grammar_words.specs.Classes.{has, inside}
 use Rattle.grammar_words.proofs.Ready.{Shape, Ready, tok-ready, made-ready, wider-ready}
 use Rattle.grammar_words.proofs.ReadyJoin.{then-ready, either-ready}
 use Rattle.grammar_words.proofs.ReadyMany.{many-ready}
 use Rattle.grammar_words.proofs.ReadyWords.{past-ready, ended-ready, perhaps-ready, listed-ready}
 use Rattle.grammar_words.proofs.ReadyLimit.{limit_shape}
 use Rattle.grammar_words.proofs.Trailing.{trailed-ready}
-use Rattle.mir_grammar.specs.Lexemes.{Lexeme, class_of, sign, word, number_value, number_type}
-use Rattle.mir_grammar.specs.Names.{Named, Argument, TypeArgument, Head, Step, StepArguments, to_path, to_keyed_path, to_mut_path, to_qualified, named_head, word_head, impl_head, word_step, impl_step, written_argument, to_plain, to_tuple, to_array, to_ref, to_raw, to_dyn}
-use Rattle.mir_grammar.specs.Types.{Family, Readers, Want, AnyType, NotMut, BehindMut, Qualified, any_word, colons, type_names, type_words, path_words, path_words_but_mut, firsts_of, type_firsts, formed_firsts, without, run, ArgumentOf, Arguments, Segment, PathStep, KeyedSteps, QualifiedHead, FreeHead, FreePath, KeyedPath, PathFrom, PlainType, TupleType, ArrayEnd, ArrayType, unmarked, marked, RefTarget, RefType, RawType, Bound, DynType, FormedType, argument_at, arguments_at, segment_at, path_step_at, path_steps_at, keyed_steps_at, qualified_at, free_head_at, free_path_at, keyed_path_at, path_from_at, plain_at, tuple_at, array_end_at, array_at, perhaps_token, ref_target_at, ref_at, raw_at, bound_at, dyn_at, formed_at}
+use Rattle.mir_grammar.specs.Lexemes.{Lexeme, class_of, sign, word}
+use Rattle.mir_grammar.specs.Names.{Named, TypeArgument, StepArguments, to_path, to_keyed_path, to_qualified, named_head, word_head, impl_head, word_step, impl_step, written_argument, to_plain, to_tuple, to_array, to_ref, to_raw, to_dyn}
+use Rattle.mir_grammar.specs.Types.{Family, Readers, Want, AnyType, NotMut, BehindMut, Qualified, any_word, colons, type_names, type_words, path_words, path_words_but_mut, firsts_of, type_firsts, formed_firsts, without, ArgumentOf, Arguments, Segment, PathStep, KeyedSteps, QualifiedHead, FreeHead, FreePath, KeyedPath, PathFrom, PlainType, TupleType, ArrayEnd, ArrayType, unmarked, marked, RefTarget, RefType, RawType, Bound, DynType, FormedType, argument_at, arguments_at, segment_at, path_step_at, path_steps_at, keyed_steps_at, qualified_at, free_head_at, free_path_at, keyed_path_at, path_from_at, plain_at, tuple_at, array_end_at, array_at, ref_target_at, ref_at, raw_at, bound_at, dyn_at, formed_at}
 use Rattle.mir_grammar.proofs.Samples.{lifetime, impl_segment, plain_number, plain_number_class, name}
 
 -- no ::, < or + may stand behind a type

@@ -1,33 +1,21 @@
 -- Rvalues that begin with no path are told from paths by two tokens.
-use Rattle.std.proofs.Common.{◌≡◌, ◌⊎◌, inl, inr, ℕ, zero, suc, ◌+◌, ◌≤◌, Bool, true, false, List, [], ◌∷◌, ◌++◌, codes, Option, Some, None, refl, arith}
-use Rattle.grammar_words.specs.Grammar.{Part, Then, Made, Either, Each}
-use Rattle.grammar_words.specs.Reading.{Reader, joined, made, pick, choose, first, second}
-use Rattle.grammar_words.specs.Classes.{has, inside, outside, Tok, tok, Past, past, Ended, ended, Trailed, trailed, perhaps, bare}
-use Rattle.grammar_words.proofs.Laws.{any}
-use Rattle.grammar_words.proofs.Ready.{Shape, Ready, tok-ready, made-ready, wider-ready}
+use Rattle.std.proofs.Common.{ℕ, Bool, true, false, List, [], ◌∷◌, codes, None, refl}
+use Rattle.grammar_words.specs.Grammar.{Part, Either}
+use Rattle.grammar_words.specs.Reading.{Reader, joined, made, pick}
+use Rattle.grammar_words.specs.Classes.{inside, tok, past, Ended, ended, Trailed, trailed, perhaps}
+use Rattle.grammar_words.proofs.Ready.{Ready, wider-ready}
 use Rattle.grammar_words.proofs.ReadyJoin.{then-ready, either-ready, left_short}
-use Rattle.grammar_words.proofs.ReadyMany.{many-ready}
-use Rattle.grammar_words.proofs.ReadyWords.{past-ready, ended-ready, perhaps-ready, listed-ready}
-use Rattle.grammar_words.proofs.ReadyLimit.{limit_shape}
+use Rattle.grammar_words.proofs.ReadyWords.{past-ready, ended-ready, perhaps-ready}
 use Rattle.grammar_words.proofs.Trailing.{trailed-ready}
-use Rattle.grammar_words.proofs.Sets.{apart}
 use Rattle.grammar_words.proofs.Fork.{Moves, Seen, moves-tok, moves-made, moves-joined, moves-left, moves-right, moves-both, moves-fork, fork-ready}
-use Rattle.grammar_words.proofs.Seen.{seen-apart, seen-alone, seen-token, seen-behind, seen-before, seen-made, seen-either, seen-then}
-use Rattle.mir_ir.specs.declared.tree.CastKind.{CastKind}
-use Rattle.mir_ir.specs.declared.tree.Constant.{Constant}
+use Rattle.grammar_words.proofs.Seen.{seen-alone, seen-before, seen-made, seen-either, seen-then}
 use Rattle.mir_ir.specs.declared.tree.Operand.{Operand}
-use Rattle.mir_lex.specs.declared.token.TokenKind.TheVariants as kind
-use Rattle.mir_ir.specs.Names as names
-use Rattle.mir_grammar.specs.Lexemes.{Lexeme, class_of, sign, word, number, number_value, number_type}
-use Rattle.mir_grammar.specs.Names.{Named, to_path, to_keyed_path, word_head, impl_head, named_head}
-use Rattle.mir_grammar.specs.Types.{Family, Readers, AnyType, Qualified, any_word, colons, run, without, FreePath, KeyedPath, PathFrom, free_head_at, FreeHead, free_path_at, keyed_path_at, keyed_steps_at, path_from_at}
+use Rattle.mir_grammar.specs.Lexemes.{Lexeme, class_of, sign}
+use Rattle.mir_grammar.specs.Types.{Family, Readers, AnyType, run}
 use Rattle.mir_grammar.specs.Places.{Placed, place_firsts}
-use Rattle.mir_grammar.specs.Values.{Limited, Value, to_plus, to_minus, to_bool, to_char, to_text, to_unit, to_named, truths, constant_words, FormedConstant, ConstantOf, to_copy, to_move, to_const, Marked, OperandOf, marks, operand_firsts, Operands, to_plain_kind, to_coercion, Coercion, Kind, CastTo, to_used, Used, to_binary, binaries, Binary, to_unary, Unary, to_measured, Measured, to_sized, Sized, to_ref_of, to_raw_of, mutable, immutable, Reference, Times, Others, to_array_of, to_no_array, ArrayRest, ArrayOf, to_tuple_of, TupleOf, Operator, FormedValue, value_words, free_words, ValuePath, to_field, Field, Fields, formed_constant_at, constant_firsts, constant_at, marked_at, operand_at, operands_at, coercion_at, kind_at, cast_to_at, used_at, binary_at, unaries, measures, sizes, unary_at, measured_at, sized_at, reference_at, array_rest_at, array_of_at, tuple_of_at, operator_at, tuple_seconds, used_or_tuple_at, formed_value_at, formed_value_firsts, value_path_at, field_at, fields_at}
-use Rattle.mir_grammar.proofs.Samples.{impl_segment, name}
-use Rattle.mir_grammar.proofs.TypeReady.{near, AllReady, keyed_steps_ready, path_steps_ready}
-use Rattle.mir_grammar.proofs.PlaceReady.{flat, number-ready}
-use Rattle.mir_grammar.specs.Places.{locals}
-use Rattle.mir_grammar.proofs.ValueReady.{PlaceKit, constant_ready, marked_ready, operand_ready, operands_ready, used_ready, cast_ready, binary_ready, unary_ready, measured_ready, sized_ready, operator_ready, reference_ready, array_of_ready, tuple_of_ready, value_path_ready, value_path_moves, value_path_seen}
+use Rattle.mir_grammar.specs.Values.{Limited, Value, to_copy, to_move, to_const, Marked, marks, operand_firsts, to_used, Used, to_binary, binaries, to_unary, to_measured, to_sized, to_tuple_of, TupleOf, FormedValue, constant_at, marked_at, operand_at, cast_to_at, used_at, binary_at, unaries, measures, sizes, unary_at, measured_at, sized_at, tuple_of_at, operator_at, tuple_seconds, used_or_tuple_at, formed_value_at, formed_value_firsts}
+use Rattle.mir_grammar.proofs.TypeReady.{near, AllReady}
+use Rattle.mir_grammar.proofs.ValueReady.{PlaceKit, constant_ready, marked_ready, operand_ready, used_ready, cast_ready, operator_ready, reference_ready, array_of_ready, tuple_of_ready}
 
 abbrev pub TupleInner : Family → Part Lexeme Placed → Part Lexeme (List (Limited Operand) × Bool)
 TupleInner T P = Ended class_of (Trailed class_of (9 ∷ []) (Marked T P)) (2 ∷ [])
@@ -57,8 +45,8 @@ unfolding class_of
 marked_moves {m} {x} {T} {U} {S} {t} {u} {R} {W} {H} {p} {w} i r = moves-both class_of (116 ∷ []) (120 ∷ 121 ∷ []) (marked_at m t p)
     (moves-right class_of (116 ∷ []) (120 ∷ []) _ _ refl (moves-right class_of (116 ∷ []) (121 ∷ []) _ _ refl (moves-made class_of (116 ∷ []) to_const _ (moves-made class_of (116 ∷ []) (λ v. v.1) _ (moves-joined class_of (116 ∷ []) (tok class_of (116 ∷ [])) (constant_at m t) (moves-tok class_of (116 ∷ []) (116 ∷ []) refl) (left_short (constant_ready i).laws))))))
     (moves-both class_of (120 ∷ []) (121 ∷ []) (marked_at m t p)
-      (moves-left class_of (120 ∷ []) (120 ∷ []) _ _ refl (moves-made class_of (120 ∷ []) to_copy _ (moves-made class_of (120 ∷ []) (λ v. v.1) _ (moves-joined class_of (120 ∷ []) (tok class_of (120 ∷ [])) p (moves-tok class_of (120 ∷ []) (120 ∷ []) refl) (left_short r.ready.laws)))))
-      (moves-right class_of (121 ∷ []) (120 ∷ []) _ _ refl (moves-left class_of (121 ∷ []) (121 ∷ []) _ _ refl (moves-made class_of (121 ∷ []) to_move _ (moves-made class_of (121 ∷ []) (λ v. v.1) _ (moves-joined class_of (121 ∷ []) (tok class_of (121 ∷ [])) p (moves-tok class_of (121 ∷ []) (121 ∷ []) refl) (left_short r.ready.laws)))))))
+    (moves-left class_of (120 ∷ []) (120 ∷ []) _ _ refl (moves-made class_of (120 ∷ []) to_copy _ (moves-made class_of (120 ∷ []) (λ v. v.1) _ (moves-joined class_of (120 ∷ []) (tok class_of (120 ∷ [])) p (moves-tok class_of (120 ∷ []) (120 ∷ []) refl) (left_short r.ready.laws)))))
+    (moves-right class_of (121 ∷ []) (120 ∷ []) _ _ refl (moves-left class_of (121 ∷ []) (121 ∷ []) _ _ refl (moves-made class_of (121 ∷ []) to_move _ (moves-made class_of (121 ∷ []) (λ v. v.1) _ (moves-joined class_of (121 ∷ []) (tok class_of (121 ∷ [])) p (moves-tok class_of (121 ∷ []) (121 ∷ []) refl) (left_short r.ready.laws)))))))
 
 pub marked_operand_moves : {m : ℕ} {x : List Lexeme} {T U : Family} {S : List Lexeme → Family} {t u : Readers} {R W : Part Lexeme Placed} {H : List Lexeme → Part Lexeme Placed} {p w : Reader Lexeme Placed} → AllReady m x T U S t u → PlaceKit m x R W H p w → Moves class_of (116 ∷ 120 ∷ 121 ∷ []) (operand_at m t p)
 unfolding operand_at
@@ -92,10 +80,10 @@ unfolding class_of
 operator_moves {m} {x} {T} {U} {S} {t} {u} {R} {W} {H} {p} {w} i r = moves-both class_of binaries (run 144 7) (operator_at m t p)
     (moves-left class_of binaries binaries (binary_at m t p) (pick (inside class_of unaries) (unary_at m t p) (pick (inside class_of measures) (measured_at p) (sized_at t))) refl (moves-made class_of binaries to_binary (joined (tok class_of binaries) (past class_of (1 ∷ []) (joined (operand_at m t p) (past class_of (9 ∷ []) (ended class_of (operand_at m t p) (2 ∷ [])))))) (moves-joined class_of binaries (tok class_of binaries) (past class_of (1 ∷ []) (joined (operand_at m t p) (past class_of (9 ∷ []) (ended class_of (operand_at m t p) (2 ∷ []))))) (moves-tok class_of binaries binaries refl) (left_short (past-ready {c = class_of} {m = m} {x = x} (1 ∷ []) (sign (codes "(")) refl (then-ready (operand_ready i r) (past-ready {c = class_of} {m = m} {x = x} (9 ∷ []) (sign (codes ",")) refl (ended-ready {c = class_of} {m = m} {x = x} (2 ∷ []) (sign (codes ")")) refl (operand_ready i r) refl) refl) refl) refl).laws))))
     (moves-right class_of (run 144 7) binaries (binary_at m t p) (pick (inside class_of unaries) (unary_at m t p) (pick (inside class_of measures) (measured_at p) (sized_at t))) refl (moves-both class_of unaries (run 147 4) (pick (inside class_of unaries) (unary_at m t p) (pick (inside class_of measures) (measured_at p) (sized_at t)))
-      (moves-left class_of unaries unaries (unary_at m t p) (pick (inside class_of measures) (measured_at p) (sized_at t)) refl (moves-made class_of unaries to_unary (joined (tok class_of unaries) (past class_of (1 ∷ []) (ended class_of (operand_at m t p) (2 ∷ [])))) (moves-joined class_of unaries (tok class_of unaries) (past class_of (1 ∷ []) (ended class_of (operand_at m t p) (2 ∷ []))) (moves-tok class_of unaries unaries refl) (left_short (past-ready {c = class_of} {m = m} {x = x} (1 ∷ []) (sign (codes "(")) refl (ended-ready {c = class_of} {m = m} {x = x} (2 ∷ []) (sign (codes ")")) refl (operand_ready i r) refl) refl).laws))))
-      (moves-right class_of (run 147 4) unaries (unary_at m t p) (pick (inside class_of measures) (measured_at p) (sized_at t)) refl (moves-both class_of measures sizes (pick (inside class_of measures) (measured_at p) (sized_at t))
-        (moves-left class_of measures measures (measured_at p) (sized_at t) refl (moves-made class_of measures to_measured (joined (tok class_of measures) (past class_of (1 ∷ []) (ended class_of p (2 ∷ [])))) (moves-joined class_of measures (tok class_of measures) (past class_of (1 ∷ []) (ended class_of p (2 ∷ []))) (moves-tok class_of measures measures refl) (left_short (past-ready {c = class_of} {m = m} {x = x} (1 ∷ []) (sign (codes "(")) refl (ended-ready {c = class_of} {m = m} {x = x} (2 ∷ []) (sign (codes ")")) refl r.ready refl) refl).laws))))
-        (moves-right class_of sizes measures (measured_at p) (sized_at t) refl (moves-made class_of sizes to_sized (joined (tok class_of sizes) (past class_of (1 ∷ []) (ended class_of (t AnyType) (2 ∷ [])))) (moves-joined class_of sizes (tok class_of sizes) (past class_of (1 ∷ []) (ended class_of (t AnyType) (2 ∷ []))) (moves-tok class_of sizes sizes refl) (left_short (past-ready {c = class_of} {m = m} {x = x} (1 ∷ []) (sign (codes "(")) refl (ended-ready {c = class_of} {m = m} {x = x} (2 ∷ []) (sign (codes ")")) refl (i AnyType) refl) refl).laws))))))))
+    (moves-left class_of unaries unaries (unary_at m t p) (pick (inside class_of measures) (measured_at p) (sized_at t)) refl (moves-made class_of unaries to_unary (joined (tok class_of unaries) (past class_of (1 ∷ []) (ended class_of (operand_at m t p) (2 ∷ [])))) (moves-joined class_of unaries (tok class_of unaries) (past class_of (1 ∷ []) (ended class_of (operand_at m t p) (2 ∷ []))) (moves-tok class_of unaries unaries refl) (left_short (past-ready {c = class_of} {m = m} {x = x} (1 ∷ []) (sign (codes "(")) refl (ended-ready {c = class_of} {m = m} {x = x} (2 ∷ []) (sign (codes ")")) refl (operand_ready i r) refl) refl).laws))))
+    (moves-right class_of (run 147 4) unaries (unary_at m t p) (pick (inside class_of measures) (measured_at p) (sized_at t)) refl (moves-both class_of measures sizes (pick (inside class_of measures) (measured_at p) (sized_at t))
+    (moves-left class_of measures measures (measured_at p) (sized_at t) refl (moves-made class_of measures to_measured (joined (tok class_of measures) (past class_of (1 ∷ []) (ended class_of p (2 ∷ [])))) (moves-joined class_of measures (tok class_of measures) (past class_of (1 ∷ []) (ended class_of p (2 ∷ []))) (moves-tok class_of measures measures refl) (left_short (past-ready {c = class_of} {m = m} {x = x} (1 ∷ []) (sign (codes "(")) refl (ended-ready {c = class_of} {m = m} {x = x} (2 ∷ []) (sign (codes ")")) refl r.ready refl) refl).laws))))
+    (moves-right class_of sizes measures (measured_at p) (sized_at t) refl (moves-made class_of sizes to_sized (joined (tok class_of sizes) (past class_of (1 ∷ []) (ended class_of (t AnyType) (2 ∷ [])))) (moves-joined class_of sizes (tok class_of sizes) (past class_of (1 ∷ []) (ended class_of (t AnyType) (2 ∷ []))) (moves-tok class_of sizes sizes refl) (left_short (past-ready {c = class_of} {m = m} {x = x} (1 ∷ []) (sign (codes "(")) refl (ended-ready {c = class_of} {m = m} {x = x} (2 ∷ []) (sign (codes ")")) refl (i AnyType) refl) refl).laws))))))))
 
 pub formed_moves : {m : ℕ} {x : List Lexeme} {T U : Family} {S : List Lexeme → Family} {t u : Readers} {R W : Part Lexeme Placed} {H : List Lexeme → Part Lexeme Placed} {p w : Reader Lexeme Placed} → AllReady m x T U S t u → PlaceKit m x R W H p w → Moves class_of (116 ∷ 120 ∷ 121 ∷ run 124 27) (formed_value_at m t p)
 unfolding used_or_tuple_at

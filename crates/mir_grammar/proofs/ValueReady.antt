@@ -1,28 +1,25 @@
 -- Operands and rvalues are ready.
-use Rattle.std.proofs.Common.{◌≡◌, ◌⊎◌, inl, inr, ℕ, zero, suc, ◌+◌, ◌≤◌, Bool, true, false, List, [], ◌∷◌, ◌++◌, codes, Option, Some, None, refl, arith}
-use Rattle.grammar_words.specs.Grammar.{Part, Then, Made, Either, Each}
-use Rattle.grammar_words.specs.Reading.{Reader, joined, made, pick, choose, first, second}
-use Rattle.grammar_words.specs.Classes.{has, inside, outside, Tok, tok, Past, past, bare}
+use Rattle.std.proofs.Common.{◌≡◌, ℕ, Bool, true, false, List, [], ◌∷◌, codes, Some, None, refl}
+use Rattle.grammar_words.specs.Grammar.{Part, Made}
+use Rattle.grammar_words.specs.Reading.{Reader, second}
+use Rattle.grammar_words.specs.Classes.{has, outside, Tok, tok}
 use Rattle.grammar_words.proofs.Laws.{any}
-use Rattle.grammar_words.proofs.Ready.{Shape, Ready, tok-ready, made-ready, wider-ready}
+use Rattle.grammar_words.proofs.Ready.{Ready, tok-ready, made-ready, wider-ready}
 use Rattle.grammar_words.proofs.ReadyJoin.{then-ready, either-ready, left_short}
 use Rattle.grammar_words.proofs.ReadyMany.{many-ready}
 use Rattle.grammar_words.proofs.ReadyWords.{past-ready, ended-ready, perhaps-ready, listed-ready}
 use Rattle.grammar_words.proofs.ReadyLimit.{limit_shape}
 use Rattle.grammar_words.proofs.Trailing.{trailed-ready}
 use Rattle.grammar_words.proofs.Sets.{apart}
-use Rattle.grammar_words.proofs.Fork.{Moves, Seen, moves-tok, moves-made, moves-joined, moves-left, moves-right, moves-both, moves-fork, fork-ready}
-use Rattle.grammar_words.proofs.Seen.{seen-apart, seen-alone, seen-token, seen-behind, seen-before, seen-made, seen-either, seen-then}
-use Rattle.mir_ir.specs.declared.tree.CastKind.{CastKind}
-use Rattle.mir_ir.specs.declared.tree.Constant.{Constant}
-use Rattle.mir_ir.specs.declared.tree.Operand.{Operand}
+use Rattle.grammar_words.proofs.Fork.{Moves, Seen, moves-tok, moves-made, moves-joined, moves-left, moves-right, fork-ready}
+use Rattle.grammar_words.proofs.Seen.{seen-apart, seen-token, seen-behind, seen-before, seen-made, seen-either}
 use Rattle.mir_lex.specs.declared.token.TokenKind.TheVariants as kind
 use Rattle.mir_ir.specs.Names as names
 use Rattle.mir_grammar.specs.Lexemes.{Lexeme, class_of, sign, word, number, number_value, number_type}
-use Rattle.mir_grammar.specs.Names.{Named, to_path, to_keyed_path, word_head, impl_head, named_head}
-use Rattle.mir_grammar.specs.Types.{Family, Readers, AnyType, Qualified, any_word, colons, run, without, FreePath, KeyedPath, PathFrom, free_head_at, FreeHead, free_path_at, keyed_path_at, keyed_steps_at, path_from_at}
+use Rattle.mir_grammar.specs.Names.{to_path, to_keyed_path, word_head, impl_head, named_head}
+use Rattle.mir_grammar.specs.Types.{Family, Readers, AnyType, Qualified, any_word, colons, run, FreePath, KeyedPath, PathFrom, free_head_at, FreeHead, free_path_at, keyed_path_at, keyed_steps_at, path_from_at}
 use Rattle.mir_grammar.specs.Places.{Placed, place_firsts}
-use Rattle.mir_grammar.specs.Values.{Limited, Value, to_plus, to_minus, to_bool, to_char, to_text, to_unit, to_named, truths, constant_words, FormedConstant, ConstantOf, to_copy, to_move, to_const, Marked, OperandOf, marks, operand_firsts, Operands, to_plain_kind, to_coercion, Coercion, Kind, CastTo, to_used, Used, to_binary, binaries, Binary, to_unary, Unary, to_measured, Measured, to_sized, Sized, to_ref_of, to_raw_of, mutable, immutable, Reference, Times, Others, to_array_of, to_no_array, ArrayRest, ArrayOf, to_tuple_of, TupleOf, Operator, FormedValue, value_words, free_words, ValuePath, to_field, Field, Fields, formed_constant_at, constant_firsts, constant_at, marked_at, operand_at, operands_at, coercion_at, kind_at, cast_to_at, used_at, binary_at, unaries, measures, sizes, unary_at, measured_at, sized_at, reference_at, array_rest_at, array_of_at, tuple_of_at, operator_at, tuple_seconds, used_or_tuple_at, formed_value_at, formed_value_firsts, value_path_at, field_at, fields_at}
+use Rattle.mir_grammar.specs.Values.{to_plus, to_minus, to_bool, to_char, to_text, to_unit, to_named, truths, constant_words, FormedConstant, ConstantOf, to_copy, to_move, to_const, Marked, OperandOf, marks, operand_firsts, Operands, to_plain_kind, to_coercion, Coercion, Kind, CastTo, to_used, Used, to_binary, binaries, Binary, to_unary, Unary, to_measured, Measured, to_sized, Sized, to_ref_of, to_raw_of, mutable, immutable, Reference, Others, to_times, to_array_of, to_no_array, ArrayRest, ArrayOf, to_tuple_of, TupleOf, Operator, value_words, free_words, to_field, Field, Fields, formed_constant_at, constant_firsts, constant_at, marked_at, operand_at, operands_at, coercion_at, kind_at, cast_to_at, used_at, binary_at, unaries, measures, sizes, unary_at, measured_at, sized_at, reference_at, array_rest_at, array_of_at, tuple_of_at, operator_at, tuple_seconds, field_at, fields_at}
 use Rattle.mir_grammar.proofs.Samples.{impl_segment, name}
 use Rattle.mir_grammar.proofs.TypeReady.{near, AllReady, keyed_steps_ready, path_steps_ready}
 use Rattle.mir_grammar.proofs.PlaceReady.{flat, number-ready}
@@ -70,12 +67,12 @@ constant_path_ready {m} {x} i = wider-ready _ (either-ready truths (constant_key
 pub constant_path_moves : {m : ℕ} {x : List Lexeme} {T U : Family} {S : List Lexeme → Family} {t u : Readers} → AllReady m x T U S t u → Moves class_of truths (path_from_at m truths constant_words t)
 constant_path_moves {m} {x} {T} {U} {S} {t} {u} i =
     moves-left class_of truths truths (keyed_path_at m truths t) (free_path_at m constant_words t) refl
-      (moves-made class_of truths to_keyed_path _ (moves-joined class_of truths (tok class_of truths) (keyed_steps_at m t) (moves-tok class_of truths truths refl) (left_short (keyed_steps_ready i).laws)))
+    (moves-made class_of truths to_keyed_path _ (moves-joined class_of truths (tok class_of truths) (keyed_steps_at m t) (moves-tok class_of truths truths refl) (left_short (keyed_steps_ready i).laws)))
 
 pub constant_path_seen : {m : ℕ} {x : List Lexeme} {T U : Family} {S : List Lexeme → Family} {t u : Readers} → AllReady m x T U S t u → (b : List ℕ) → (z : Lexeme → Bool) → apart (43 ∷ 7 ∷ constant_words) b ≡ true → (y : List Lexeme) → Seen class_of b truths colons z false (PathFrom truths constant_words (S y))
 constant_path_seen {m} {x} i b z e y =
     seen-either (seen-made to_keyed_path (seen-before (near (12 ∷ 7 ∷ []) colons) b truths colons truths ((keyed_steps_ready i).opens_holed y) refl))
-      (seen-apart (near (12 ∷ 7 ∷ []) (43 ∷ 7 ∷ constant_words)) b truths colons ((constant_free_ready i).opens_holed y) e)
+    (seen-apart (near (12 ∷ 7 ∷ []) (43 ∷ 7 ∷ constant_words)) b truths colons ((constant_free_ready i).opens_holed y) e)
 
 pub value_head_ready : {m : ℕ} {x : List Lexeme} {T U : Family} {S : List Lexeme → Family} {t u : Readers} → AllReady m x T U S t u
     → Ready class_of m (near [] (43 ∷ 7 ∷ free_words)) x (FreeHead free_words T) (FreeHead free_words U) (λ y. FreeHead free_words (S y)) (free_head_at free_words t) (free_head_at free_words u)
@@ -101,12 +98,12 @@ value_path_ready {m} {x} i = wider-ready _ (either-ready value_words (value_keye
 pub value_path_moves : {m : ℕ} {x : List Lexeme} {T U : Family} {S : List Lexeme → Family} {t u : Readers} → AllReady m x T U S t u → Moves class_of value_words (path_from_at m value_words free_words t)
 value_path_moves {m} {x} {T} {U} {S} {t} {u} i =
     moves-left class_of value_words value_words (keyed_path_at m value_words t) (free_path_at m free_words t) refl
-      (moves-made class_of value_words to_keyed_path _ (moves-joined class_of value_words (tok class_of value_words) (keyed_steps_at m t) (moves-tok class_of value_words value_words refl) (left_short (keyed_steps_ready i).laws)))
+    (moves-made class_of value_words to_keyed_path _ (moves-joined class_of value_words (tok class_of value_words) (keyed_steps_at m t) (moves-tok class_of value_words value_words refl) (left_short (keyed_steps_ready i).laws)))
 
 pub value_path_seen : {m : ℕ} {x : List Lexeme} {T U : Family} {S : List Lexeme → Family} {t u : Readers} → AllReady m x T U S t u → (b : List ℕ) → (z : Lexeme → Bool) → apart (43 ∷ 7 ∷ free_words) b ≡ true → (y : List Lexeme) → Seen class_of b value_words colons z false (PathFrom value_words free_words (S y))
 value_path_seen {m} {x} i b z e y =
     seen-either (seen-made to_keyed_path (seen-before (near (12 ∷ 7 ∷ []) colons) b value_words colons value_words ((keyed_steps_ready i).opens_holed y) refl))
-      (seen-apart (near (12 ∷ 7 ∷ []) (43 ∷ 7 ∷ free_words)) b value_words colons ((value_free_ready i).opens_holed y) e)
+    (seen-apart (near (12 ∷ 7 ∷ []) (43 ∷ 7 ∷ free_words)) b value_words colons ((value_free_ready i).opens_holed y) e)
 
 pub formed_constant_ready : (m : ℕ) (x : List Lexeme) → Ready class_of m (flat constant_firsts) x FormedConstant FormedConstant (λ y. FormedConstant) formed_constant_at formed_constant_at
 unfolding class_of
@@ -123,7 +120,7 @@ formed_constant_seen : (m : ℕ) → Seen class_of constant_firsts truths colons
 unfolding class_of
 formed_constant_seen m =
     let one : (a : Lexeme) → has (36 ∷ 37 ∷ []) (class_of a) ≡ true → Seen class_of constant_firsts truths colons (outside class_of (12 ∷ 7 ∷ [])) true (Made to_plus (Tok class_of (36 ∷ 37 ∷ [])))
-            = λ a h. seen-made to_plus (seen-token (12 ∷ 7 ∷ []) constant_firsts truths colons (36 ∷ 37 ∷ []) refl) in
+    = λ a h. seen-made to_plus (seen-token (12 ∷ 7 ∷ []) constant_firsts truths colons (36 ∷ 37 ∷ []) refl) in
     seen-either (one small (rw small_class refl))
     (seen-either (seen-made to_minus (seen-made second (seen-behind (flat (36 ∷ 38 ∷ [])) (12 ∷ 7 ∷ []) constant_firsts truths colons (19 ∷ []) (tok-ready class_of m (36 ∷ 38 ∷ []) small (rw small_class refl) []).opens refl)))
     (seen-either (seen-made to_bool (seen-token (12 ∷ 7 ∷ []) constant_firsts truths colons truths refl))
@@ -209,7 +206,7 @@ reference_ready {m} {x} i r = wider-ready _ (past-ready (15 ∷ []) (sign (codes
 pub array_rest_ready : {m : ℕ} {x : List Lexeme} {T U : Family} {S : List Lexeme → Family} {t u : Readers} {R W : Part Lexeme Placed} {H : List Lexeme → Part Lexeme Placed} {p w : Reader Lexeme Placed} → AllReady m x T U S t u → PlaceKit m x R W H p w
     → Ready class_of m (near [] (10 ∷ 9 ∷ 4 ∷ [])) x (ArrayRest T R) (ArrayRest U W) (λ y. ArrayRest (S y) (H y)) (array_rest_at m t p) (array_rest_at m u w)
 unfolding class_of
-array_rest_ready {m} {x} i r = wider-ready _ (either-ready (10 ∷ []) (made-ready Times (past-ready (10 ∷ []) (sign (codes ";")) refl (ended-ready (4 ∷ []) (sign (codes "]")) refl (number-ready m x) refl) refl))
+array_rest_ready {m} {x} i r = wider-ready _ (either-ready (10 ∷ []) (made-ready to_times (past-ready (10 ∷ []) (sign (codes ";")) refl (ended-ready (4 ∷ []) (sign (codes "]")) refl (number-ready m x) refl) refl))
     (made-ready Others (ended-ready (4 ∷ []) (sign (codes "]")) refl (many-ready (9 ∷ []) (past-ready (9 ∷ []) (sign (codes ",")) refl (operand_ready i r) refl) refl) refl)) refl) refl
 
 pub array_of_ready : {m : ℕ} {x : List Lexeme} {T U : Family} {S : List Lexeme → Family} {t u : Readers} {R W : Part Lexeme Placed} {H : List Lexeme → Part Lexeme Placed} {p w : Reader Lexeme Placed} → AllReady m x T U S t u → PlaceKit m x R W H p w

@@ -7,26 +7,27 @@
 --   next       := label | [ (return | success) : label (, edge)? ]
 --   edge       := unwind (continue | unreachable | terminate ( word ) | :? label)
 -- return stands in the next of a call or a drop, success in that of an assert.
-use Rattle.std.specs.Prelude.{ℕ, Bool, true, false, not, if◌then◌else◌, List, [], ◌∷◌, codes, Option, Some, None}
-use Rattle.std.specs.Str.{bytes_eq}
+use Rattle.std.specs.Prelude.{ℕ, Bool, not, List, [], ◌∷◌, Option, Some, None}
 use Rattle.vk_core.specs.declared.ids.BlockId.{BlockId}
-use Rattle.mir_ir.specs.declared.places.PlaceExpr.{PlaceExpr}
 use Rattle.mir_ir.specs.declared.tree.Operand.{Operand}
 use Rattle.mir_ir.specs.declared.tree.Statement.{Statement}
 use Rattle.mir_ir.specs.declared.tree.Statement.TheVariants as statement
 use Rattle.mir_ir.specs.declared.tree.Arm.{Arm}
-use Rattle.mir_ir.specs.declared.tree.Callee.{Callee}
-use Rattle.mir_ir.specs.declared.tree.Terminator.{Terminator}
 use Rattle.mir_ir.specs.declared.tree.Terminator.TheVariants as terminator
 use Rattle.grammar_words.specs.Grammar.{Part, Then, Made, Either, Each, Next, More, Last}
 use Rattle.grammar_words.specs.Reading.{Reader, joined, made, pick, choose, many}
 use Rattle.grammar_words.specs.Classes.{inside, Tok, tok, Past, past, Ended, ended, Perhaps, perhaps, Perhaps_token, bare}
+pub use Rattle.mir_grammar.specs.declared.trees.Target.{Target}
+pub use Rattle.mir_grammar.specs.declared.trees.Target.TheVariants.{ToBlock, ToLabel, ToNone}
+pub use Rattle.mir_grammar.specs.declared.trees.Ending.{Ending}
+pub use Rattle.mir_grammar.specs.declared.trees.Ending.TheVariants.{Settled, Calling}
+pub use Rattle.mir_grammar.specs.declared.trees.PathTail.{PathTail}
+pub use Rattle.mir_grammar.specs.declared.trees.PathTail.TheVariants.{UnitTail, FieldTail, OperandTail}
 use Rattle.mir_grammar.specs.Lexemes.{Lexeme, class_of, local_number, label_number, number_value, text_body}
 use Rattle.mir_grammar.specs.Names.{Named}
 use Rattle.mir_grammar.specs.Types.{Family, Readers, any_word, colons, perhaps_token}
-use Rattle.mir_grammar.specs.Places.{Passed, none_passed, both_passed, long_name, is_far, far_local, to_local_id, Placed, place_firsts, locals}
+use Rattle.mir_grammar.specs.Places.{Passed, none_passed, both_passed, long_name, block_passed, far_local, to_local_id, Placed, place_firsts, locals}
 use Rattle.mir_grammar.specs.Values.{Limited, Value, values_of, all_passed, OperandOf, Operands, FormedValue, RvalueOf, ValuePath, Fields, to_path_unit, to_path_tuple, to_path_fields, operand_at, operands_at, formed_value_at, formed_value_firsts, value_words, value_path_at, fields_at}
-use Rattle.mir_ir.specs.declared.tree.NamedOperand.{NamedOperand}
 
 -- Labels and where a call goes on.
 
@@ -34,7 +35,7 @@ abbrev pub to_block_id : ℕ → BlockId
 to_block_id n = record { 0 = n }
 
 abbrev pub far_block : Lexeme → Passed
-far_block l = record { locals = false; blocks = is_far (label_number l); names = false }
+far_block l = block_passed (label_number l)
 
 abbrev pub Label : Type 0
 Label = Limited BlockId
@@ -65,13 +66,6 @@ Bracketed word = Made with_edge (Past class_of (3 ∷ []) (Past class_of word (P
 
 abbrev pub NextBlock : List ℕ → Part Lexeme Label
 NextBlock word = Either LabelPart (Bracketed word)
-
--- where a call goes on: the block in brackets; a label without them, which is the next block unless it is a cleanup
--- block's; or nowhere
-pub data Target : Type 0 where
-  ToBlock : BlockId → Target
-  ToLabel : BlockId → Target
-  ToNone : Target
 
 unfoldable pub bare_target : Label → Limited Target
 bare_target l = record { value = ToLabel l.value; passed = l.passed }
@@ -135,11 +129,6 @@ abbrev pub StatementOf : Family → Part Lexeme Placed → Part Lexeme Kept
 StatementOf T P = Either (AssignOf T P) (WordStatement P)
 
 -- Terminators.
-
--- a terminator, or a call whose target may be a label without brackets
-pub data Ending : Type 0 where
-  Settled : Terminator → Ending
-  Calling : PlaceExpr → Callee → List Operand → Target → Ending
 
 abbrev pub EndingAt : Type 0
 EndingAt = Limited Ending
@@ -229,12 +218,6 @@ CleanupBody T P = Then (Each (StatementOf T P)) (Either (TerminatorOf T P) Resum
 
 abbrev pub Line : Type 0
 Line = Next Kept EndingAt
-
--- what stands behind the path of a value
-pub data PathTail : Type 0 where
-  UnitTail : PathTail
-  FieldTail : List (Limited NamedOperand) → PathTail
-  OperandTail : List (Limited Operand) → Option (Limited Target) → PathTail
 
 abbrev pub unit_tail : Lexeme → PathTail
 unit_tail l = UnitTail

@@ -8,34 +8,17 @@
 -- A parameter is not _0.
 use Rattle.std.specs.Prelude.{ℕ, zero, suc, Bool, true, false, List, [], ◌∷◌, ◌++◌, length, ◌+◌}
 use Rattle.grammar_words.specs.Grammar.{Part, Then, Made, Either, Each, Never, At}
-use Rattle.grammar_words.specs.Reading.{Outcome, Reader, joined, made, pick, many, until, guard, deep, first}
+use Rattle.grammar_words.specs.Reading.{Outcome, Reader, joined, made, pick, many, until, guard, deep}
 use Rattle.grammar_words.specs.Classes.{inside, Tok, tok, Past, past, Ended, ended, Perhaps, perhaps, Perhaps_token, Listed, listed}
 use Rattle.grammar_words.specs.Exact.{whole, IsRight}
-use Rattle.mir_grammar.specs.Lexemes.{Lexeme, class_of}
+pub use Rattle.mir_grammar.specs.declared.trees.Declared.{Declared}
+pub use Rattle.mir_grammar.specs.declared.trees.RawBlock.{RawBlock}
+pub use Rattle.mir_grammar.specs.declared.trees.RawFunction.{RawFunction}
+use Rattle.mir_grammar.specs.Lexemes.{Lexeme, class_of, local_number, label_number}
 use Rattle.mir_grammar.specs.Names.{Named}
 use Rattle.mir_grammar.specs.Types.{Family, Readers, AnyType, NoType, TypeLevel, type_at, firsts_of, any_word, run, without, FreePath, free_path_at, perhaps_token}
-use Rattle.mir_grammar.specs.Places.{Placed, PlaceLevel, place_at, place_firsts, locals}
-use Rattle.mir_grammar.specs.Blocks.{Kept, EndingAt, Body, CleanupBody, line_at, cleanup_line_at}
-
--- a local and its type
-pub record Declared : Type 0 where
-  pub local : Lexeme
-  pub ty : Named
-
--- a block by its label; whether it is a cleanup block; its statements and its terminator
-pub record RawBlock : Type 0 where
-  pub label : Lexeme
-  pub is_cleanup : Bool
-  pub statements : List Kept
-  pub ending : EndingAt
-
--- a function as it is written
-pub record RawFunction : Type 0 where
-  pub name : Named
-  pub parameters : List Declared
-  pub result : Named
-  pub items : List Declared
-  pub blocks : List RawBlock
+use Rattle.mir_grammar.specs.Places.{Placed, to_local_id, PlaceLevel, place_at, place_firsts, locals}
+use Rattle.mir_grammar.specs.Blocks.{to_block_id, Kept, EndingAt, Body, CleanupBody, line_at, cleanup_line_at}
 
 -- Sets of classes.
 
@@ -51,7 +34,7 @@ scope_tokens = without (1 ∷ 2 ∷ 5 ∷ 6 ∷ []) any_token
 -- Items.
 
 unfoldable pub to_declared : Lexeme × Named → Declared
-to_declared v = record { local = v.0; ty = v.1 }
+to_declared v = record { id = to_local_id (local_number v.0); word = v.0.text; start = v.0.start; ty = v.1 }
 
 abbrev pub one_item : Declared → List Declared
 one_item d = d ∷ []
@@ -101,7 +84,7 @@ ScopeLevel B T (suc d) = Scope T (ScopeLevel B T d)
 -- Blocks.
 
 unfoldable pub to_block : Lexeme × (Bool × (List Kept × EndingAt)) → RawBlock
-to_block v = record { label = v.0; is_cleanup = v.1.0; statements = v.1.1.0; ending = v.1.1.1 }
+to_block v = record { id = to_block_id (label_number v.0); word = v.0.text; start = v.0.start; is_cleanup = v.1.0; statements = v.1.1.0; ending = v.1.1.1 }
 
 abbrev pub kept_body : List Kept × EndingAt → Bool × (List Kept × EndingAt)
 kept_body v = (false, v)

@@ -1,12 +1,12 @@
 -- Tokens as the grammar sees them, and their classes.
-use Rattle.std.specs.Prelude.{ℕ, zero, suc, ◌+◌, ◌-◌, ◌^◌, Bool, true, false, ◌&&◌, ◌||◌, ◌==◌, nat_lt, nat_le, if◌then◌else◌, List, [], ◌∷◌, drop, codes, Option, Some, None}
+use Rattle.std.specs.Prelude.{ℕ, ◌+◌, ◌-◌, ◌^◌, Bool, true, false, ◌&&◌, ◌||◌, ◌==◌, nat_lt, nat_le, if◌then◌else◌, List, [], ◌∷◌, drop, codes, Option, Some, None}
 use Rattle.std.specs.Str.{bytes_eq}
 use Rattle.mir_ir.specs.declared.types.IntTy.{IntTy}
 use Rattle.mir_ir.specs.Integers.{width_of, is_signed}
 use Rattle.mir_ir.specs.Names.{int_of_name}
 use Rattle.mir_lex.specs.declared.token.TokenKind.{TokenKind}
 use Rattle.mir_lex.specs.declared.token.TokenKind.TheVariants as kind
-use Rattle.mir_lex.specs.Views.{is_local, is_label, decimal, digits_of, suffix_of, between, character_value}
+use Rattle.mir_lex.specs.Views.{is_local, is_label, decimal, capped, digits_of, suffix_of, between, character_value}
 
 -- a token by what it is, its bytes as they are written, and where they start in the text
 pub record Lexeme : Type 0 where
@@ -16,11 +16,12 @@ pub record Lexeme : Type 0 where
 
 -- Numbers in tokens.
 
+-- the number of a local or a block, where 4096 stands for each one past the limit
 unfoldable pub local_number : Lexeme → ℕ
-local_number l = decimal (drop 1 l.text)
+local_number l = capped (decimal (drop 1 l.text))
 
 unfoldable pub label_number : Lexeme → ℕ
-label_number l = decimal (drop 2 l.text)
+label_number l = capped (decimal (drop 2 l.text))
 
 -- the value of a number's digits
 unfoldable pub number_value : Lexeme → ℕ

@@ -128,7 +128,7 @@ argument_of (HeadWord w start) steps =
     if bytes_eq (codes "kani") w then words_then (codes "any" ∷ []) [] steps
     else (if bytes_eq (codes "Box") w then words_then [] (codes "new" ∷ []) steps
     else (if bytes_eq (codes "std") w then first_some (words_then (codes "boxed" ∷ codes "Box" ∷ []) (codes "new" ∷ []) steps)
-      (first_some (words_then (codes "ptr" ∷ codes "null" ∷ []) [] steps) (words_then (codes "ptr" ∷ codes "null_mut" ∷ []) [] steps)) else None))
+    (first_some (words_then (codes "ptr" ∷ codes "null" ∷ []) [] steps) (words_then (codes "ptr" ∷ codes "null_mut" ∷ []) [] steps)) else None))
 
 abbrev pub is_over : List ℕ → Bool
 is_over text = nat_lt 256 (length text)

@@ -2,23 +2,18 @@
 --   place := base ([ index ])*
 --   base  := local | ( * place ) | ( place . number : type ) | ( place as word )
 --   index := local | number of number | - number of number
-use Rattle.std.specs.Prelude.{ℕ, zero, suc, Bool, true, false, ◌||◌, nat_le, List, [], ◌∷◌, ◌++◌}
+use Rattle.std.specs.Prelude.{ℕ, zero, suc, Bool, false, ◌||◌, nat_le, List, [], ◌∷◌, ◌++◌}
 use Rattle.vk_core.specs.declared.ids.LocalId.{LocalId}
-use Rattle.mir_ir.specs.declared.places.PlaceExpr.{PlaceExpr}
-use Rattle.mir_ir.specs.declared.places.Projection.{Projection}
 use Rattle.mir_ir.specs.declared.places.Projection.TheVariants as step
 use Rattle.grammar_words.specs.Grammar.{Part, Then, Made, Either, Each}
 use Rattle.grammar_words.specs.Reading.{Reader, joined, made, pick, many, guard, deep}
 use Rattle.grammar_words.specs.Classes.{inside, Tok, tok, Past, past, Ended, ended}
+pub use Rattle.mir_grammar.specs.declared.limits.Passed.{Passed}
+pub use Rattle.mir_grammar.specs.declared.trees.Placed.{Placed}
+pub use Rattle.mir_grammar.specs.declared.trees.Stepped.{Stepped}
 use Rattle.mir_grammar.specs.Lexemes.{Lexeme, class_of, local_number, number_value}
 use Rattle.mir_grammar.specs.Names.{Named}
 use Rattle.mir_grammar.specs.Types.{any_word}
-
--- which limits are passed: a local's number is above 4095, a block's is, a name is longer than 256 bytes
-pub record Passed : Type 0 where
-  pub locals : Bool
-  pub blocks : Bool
-  pub names : Bool
 
 abbrev pub none_passed : Passed
 none_passed = record { locals = false; blocks = false; names = false }
@@ -29,21 +24,17 @@ both_passed a b = record { locals = a.locals || b.locals; blocks = a.blocks || b
 abbrev pub is_far : ℕ → Bool
 is_far n = nat_le 4096 n
 
+abbrev pub local_passed : ℕ → Passed
+local_passed n = record { locals = is_far n; blocks = false; names = false }
+
+abbrev pub block_passed : ℕ → Passed
+block_passed n = record { locals = false; blocks = is_far n; names = false }
+
 abbrev pub far_local : Lexeme → Passed
-far_local l = record { locals = is_far (local_number l); blocks = false; names = false }
+far_local l = local_passed (local_number l)
 
 abbrev pub long_name : Bool → Passed
 long_name b = record { locals = false; blocks = false; names = b }
-
--- a place, and the limits that it passes
-pub record Placed : Type 0 where
-  pub place : PlaceExpr
-  pub passed : Passed
-
--- one step of a place
-pub record Stepped : Type 0 where
-  pub step : Projection
-  pub passed : Passed
 
 abbrev pub to_local_id : ℕ → LocalId
 to_local_id n = record { 0 = n }

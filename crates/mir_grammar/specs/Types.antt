@@ -8,11 +8,11 @@
 -- A word that begins another form of a type begins a path there only before ::, and so does mut behind &. A head
 -- < type as path > counts as a type of its own where nesting is counted.
 use Rattle.std.specs.Prelude.{ℕ, zero, suc, ◌+◌, Bool, true, false, if◌then◌else◌, List, [], ◌∷◌, Option, Some, None}
-use Rattle.grammar_words.specs.Grammar.{Part, Then, Made, Either, Each, Never, At}
+use Rattle.grammar_words.specs.Grammar.{Part, Then, Made, Either, Each, Never}
 use Rattle.grammar_words.specs.Reading.{Reader, joined, made, pick, choose, many, guard, deep, cons, first, second}
 use Rattle.grammar_words.specs.Classes.{has, inside, Tok, tok, Past, past, Ended, ended, Perhaps, perhaps, Perhaps_token, Listed, listed, Trailed, trailed, bare}
 use Rattle.mir_grammar.specs.Lexemes.{Lexeme, class_of}
-use Rattle.mir_grammar.specs.Names.{Named, Argument, TypeArgument, Head, HeadWord, Step, StepArguments, to_path, to_keyed_path, to_mut_path, to_qualified, named_head, word_head, impl_head, word_step, impl_step, written_argument, to_plain, to_tuple, to_array, to_ref, to_raw, to_dyn}
+use Rattle.mir_grammar.specs.Names.{Named, Argument, TypeArgument, Head, Step, StepArguments, to_path, to_keyed_path, to_mut_path, to_qualified, named_head, word_head, impl_head, word_step, impl_step, written_argument, to_plain, to_tuple, to_array, to_ref, to_raw, to_dyn}
 
 -- Sets of classes.
 

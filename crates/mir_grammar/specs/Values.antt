@@ -7,11 +7,10 @@
 --             | path { list(word : operand) }
 --   marked   := an operand that begins with copy, move or const
 --   kind     := IntToInt | PtrToPtr | PointerCoercion ( (Unsize | MutToConstPointer) (, word)? )
-use Rattle.std.specs.Prelude.{ℕ, ◌+◌, ◌-◌, ◌%◌, ◌^◌, Bool, true, false, ◌==◌, if◌then◌else◌, List, [], ◌∷◌, ◌++◌, codes, Option, Some, None}
+use Rattle.std.specs.Prelude.{ℕ, ◌-◌, ◌%◌, ◌^◌, Bool, true, false, if◌then◌else◌, List, [], ◌∷◌, ◌++◌, codes, Option, Some, None}
 use Rattle.std.specs.Str.{bytes_eq}
 use Rattle.word_bits.specs.declared.word.Word.{Word}
 use Rattle.mir_ir.specs.declared.types.IntTy.{IntTy}
-use Rattle.mir_ir.specs.declared.types.IntTy.TheVariants as int
 use Rattle.mir_ir.specs.declared.tree.Constant.{Constant}
 use Rattle.mir_ir.specs.declared.tree.Constant.TheVariants as constant
 use Rattle.mir_ir.specs.declared.tree.Operand.{Operand}
@@ -26,17 +25,15 @@ use Rattle.mir_ir.specs.declared.tree.BinaryOp.TheVariants as op
 use Rattle.mir_ir.specs.Integers.{width_of, is_signed}
 use Rattle.mir_ir.specs.Names.{all_ints, binary_of_name, name_of_int}
 use Rattle.grammar_words.specs.Grammar.{Part, Then, Made, Either, Each}
-use Rattle.grammar_words.specs.Reading.{Reader, joined, made, pick, choose, many, first, second}
-use Rattle.grammar_words.specs.Classes.{inside, Tok, tok, Past, past, Ended, ended, Perhaps, perhaps, Perhaps_token, Listed, listed, Trailed, trailed, bare}
+use Rattle.grammar_words.specs.Reading.{Reader, joined, made, pick, choose, many}
+use Rattle.grammar_words.specs.Classes.{inside, Tok, tok, Past, past, Ended, ended, Perhaps, perhaps, Listed, listed, Trailed, trailed, bare}
+pub use Rattle.mir_grammar.specs.declared.limits.Limited.{Limited}
+pub use Rattle.mir_grammar.specs.declared.trees.ArrayTail.{ArrayTail}
+pub use Rattle.mir_grammar.specs.declared.trees.ArrayTail.TheVariants.{Times, Others}
 use Rattle.mir_grammar.specs.Lexemes.{Lexeme, class_of, number_value, number_type, text_body, char_value}
 use Rattle.mir_grammar.specs.Names.{Named}
-use Rattle.mir_grammar.specs.Types.{Family, Readers, AnyType, any_word, colons, run, without, type_firsts, FreePath, KeyedPath, PathFrom, free_path_at, keyed_path_at, path_from_at, perhaps_token}
-use Rattle.mir_grammar.specs.Places.{Passed, none_passed, both_passed, long_name, Placed, place_firsts, locals}
-
--- a value, and the limits that its text passes
-pub record Limited (A : Type 0) : Type 0 where
-  pub value : A
-  pub passed : Passed
+use Rattle.mir_grammar.specs.Types.{Family, Readers, AnyType, any_word, colons, run, without, PathFrom, path_from_at}
+use Rattle.mir_grammar.specs.Places.{Passed, none_passed, both_passed, long_name, Placed, place_firsts}
 
 -- Constants.
 
@@ -234,20 +231,18 @@ Reference P = Past class_of (15 ∷ []) (Either (Made to_raw_of (Past class_of (
 
 -- Arrays and tuples.
 
--- an operand, and a number of times or more operands
-pub data ArrayTail : Type 0 where
-  Times : Lexeme → ArrayTail
-  Others : List (Limited Operand) → ArrayTail
-
 unfoldable pub to_array_of : Limited Operand × ArrayTail → Value
-to_array_of (o, Times n) = record { value = rvalue.Repeat o.value (number_value n); passed = o.passed }
+to_array_of (o, Times n) = record { value = rvalue.Repeat o.value n; passed = o.passed }
 to_array_of (o, Others os) = record { value = rvalue.Array (o.value ∷ values_of os); passed = both_passed o.passed (all_passed os) }
 
 unfoldable pub to_no_array : Lexeme → Value
 to_no_array l = record { value = rvalue.Array []; passed = none_passed }
 
+unfoldable pub to_times : Lexeme → ArrayTail
+to_times l = Times (number_value l)
+
 abbrev pub ArrayRest : Family → Part Lexeme Placed → Part Lexeme ArrayTail
-ArrayRest T P = Either (Made Times (Past class_of (10 ∷ []) (Ended class_of (Tok class_of (35 ∷ [])) (4 ∷ [])))) (Made Others (Ended class_of (Each (Past class_of (9 ∷ []) (OperandOf T P))) (4 ∷ [])))
+ArrayRest T P = Either (Made to_times (Past class_of (10 ∷ []) (Ended class_of (Tok class_of (35 ∷ [])) (4 ∷ [])))) (Made Others (Ended class_of (Each (Past class_of (9 ∷ []) (OperandOf T P))) (4 ∷ [])))
 
 -- [ list(operand) ], or [ operand ; number ]
 abbrev pub ArrayOf : Family → Part Lexeme Placed → Part Lexeme Value
@@ -361,7 +356,7 @@ reference_at p = past class_of (15 ∷ []) (pick (inside class_of (151 ∷ [])) 
     (made to_ref_of (pick (inside class_of (117 ∷ [])) (made mutable (past class_of (117 ∷ []) p)) (made immutable p))))
 
 abbrev pub array_rest_at : ℕ → Readers → Reader Lexeme Placed → Reader Lexeme ArrayTail
-array_rest_at m t p = pick (inside class_of (10 ∷ [])) (made Times (past class_of (10 ∷ []) (ended class_of (tok class_of (35 ∷ [])) (4 ∷ [])))) (made Others (ended class_of (many (inside class_of (9 ∷ [])) (past class_of (9 ∷ []) (operand_at m t p)) m) (4 ∷ [])))
+array_rest_at m t p = pick (inside class_of (10 ∷ [])) (made to_times (past class_of (10 ∷ []) (ended class_of (tok class_of (35 ∷ [])) (4 ∷ [])))) (made Others (ended class_of (many (inside class_of (9 ∷ [])) (past class_of (9 ∷ []) (operand_at m t p)) m) (4 ∷ [])))
 
 abbrev pub array_of_at : ℕ → Readers → Reader Lexeme Placed → Reader Lexeme Value
 array_of_at m t p = past class_of (3 ∷ []) (pick (inside class_of (4 ∷ [])) (made to_no_array (tok class_of (4 ∷ []))) (made to_array_of (joined (operand_at m t p) (array_rest_at m t p))))

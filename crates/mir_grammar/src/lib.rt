@@ -2,7 +2,16 @@
 #![tactic(auto)]
 
 mod laws;
+mod limits;
 mod named;
+mod trees;
 
 pub use laws::{each_answer_is_right, each_path_is_right, each_place_is_right, each_type_is_right};
+pub use limits::{Limited, Passed};
 pub use named::{Argument, Head, Named, Step};
+pub use trees::{
+    ArrayTail, Declared, Ending, PathTail, Placed, RawBlock, RawFunction, Stepped, Target,
+};
+
+#[cfg(test)]
+mod tests;
