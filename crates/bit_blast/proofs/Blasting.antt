@@ -22,7 +22,10 @@ use Rattle.bit_gates.specs.Made.{Extends, IsWordMade, IsInputWord, AreIn, number
 use Rattle.bit_gates.proofs.MadeLaws.{extends_itself}
 use Rattle.bit_gates.proofs.NumberLaws.{are_in_kept, in_same}
 use Rattle.bit_blast.specs.Inputs.{AreAtPlaces}
-use Rattle.bit_blast.specs.Blasted.{word_at, IsMadeWord, IsBlasted, IsTable}
+use Rattle.bit_blast.specs.Blasted.{word_at, IsMadeWord, IsBlasted, IsTable, HaveParts, IsReachedWord}
+use Rattle.gate_trim.specs.Marks.{AreClosed}
+use Rattle.bit_blast.specs.Reached.{is_part}
+use Rattle.bit_blast.proofs.Reaching.{first_operand, second_operand, cast_part, slice_part, test_part, first_arm, second_arm}
 use Rattle.bit_blast.proofs.Arithmetical.{same_word}
 use Rattle.bit_blast.proofs.Magnitudes.{word_kept}
 
@@ -93,61 +96,61 @@ input_blasted a terms places n number width ls fit e m =
     )
 
 -- the parts of a term
-pub part_width : (a : Circuit) (terms : List Term) (places : List ℕ) (n p : ℕ) (blocks : List (List ℕ)) → IsTable a terms places n blocks → p < n → length (block_at blocks p) ≡ width_of terms p
-part_width a terms places n p blocks t l = (t.each p l).width_is
+pub part_width : (a : Circuit) (terms : List Term) (places : List ℕ) (n p : ℕ) (blocks : List (List ℕ)) → HaveParts a terms places n blocks → p < n → is_part terms p n ≡ true → length (block_at blocks p) ≡ width_of terms p
+part_width a terms places n p blocks t l h = (t.each p l h).width_is
 
-pub part_inside : (a : Circuit) (terms : List Term) (places : List ℕ) (n p : ℕ) (blocks : List (List ℕ)) → IsTable a terms places n blocks → p < n → AreIn a (block_at blocks p)
-part_inside a terms places n p blocks t l = (t.each p l).inside
+pub part_inside : (a : Circuit) (terms : List Term) (places : List ℕ) (n p : ℕ) (blocks : List (List ℕ)) → HaveParts a terms places n blocks → p < n → is_part terms p n ≡ true → AreIn a (block_at blocks p)
+part_inside a terms places n p blocks t l h = (t.each p l h).inside
 
-pub part_is_width : (a : Circuit) (terms : List Term) (places : List ℕ) (n p : ℕ) (blocks : List (List ℕ)) → AreFitting terms → n < length terms → IsTable a terms places n blocks → p < n → IsWidth (length (block_at blocks p))
-part_is_width a terms places n p blocks fit inside t l = subst (λ (k : ℕ). IsWidth k) (sym (part_width a terms places n p blocks t l)) (IsWidth-width_of terms fit p (omega arith))
+pub part_is_width : (a : Circuit) (terms : List Term) (places : List ℕ) (n p : ℕ) (blocks : List (List ℕ)) → AreFitting terms → n < length terms → HaveParts a terms places n blocks → p < n → is_part terms p n ≡ true → IsWidth (length (block_at blocks p))
+part_is_width a terms places n p blocks fit inside t l h = subst (λ (k : ℕ). IsWidth k) (sym (part_width a terms places n p blocks t l h)) (IsWidth-width_of terms fit p (omega arith))
 
-pub apply_blasted : (a b : Circuit) (terms : List Term) (places : List ℕ) (n : ℕ) (op : TermOp) (p q : TermId) (blocks : List (List ℕ)) (xs ys ls : List ℕ) → AreFitting terms → slice_get terms n ≡ Some (Apply op p q) → IsTable a terms places n blocks
+pub apply_blasted : (a b : Circuit) (terms : List Term) (places : List ℕ) (n : ℕ) (op : TermOp) (p q : TermId) (blocks : List (List ℕ)) (xs ys ls : List ℕ) → AreFitting terms → slice_get terms n ≡ Some (Apply op p q) → HaveParts a terms places n blocks
     → xs ≡ block_at blocks p.0 → (IsTrue (is_binary op) → ys ≡ block_at blocks q.0)
     → IsMadeWord a b ls (λ v. applied op (word_at v xs) (word_at v ys)) → Extends a b × IsBlasted b terms places n ls
 apply_blasted a b terms places n op p q blocks xs ys ls fit e t ex ey m =
     let fits : IsFitting n (width_of terms) (Apply op p q) = fit.fitting n (Apply op p q) e in
     blasted_from a b terms places n (Apply op p q) ls (λ v. applied op (word_at v xs) (word_at v ys)) fit e m
-    (applied_width op (word_at (value a (λ k. false)) xs) (word_at (value a (λ k. false)) ys) ∙ ap (op_width op) (ap length ex ∙ (t.each p.0 fits.0).width_is))
+    (applied_width op (word_at (value a (λ k. false)) xs) (word_at (value a (λ k. false)) ys) ∙ ap (op_width op) (ap length ex ∙ (t.each p.0 fits.0 (first_operand terms n op p q e)).width_is))
     (λ bits are numbers.
-    let x : word_at (value a (bits numbers)) xs ≡ term_at terms numbers p.0 = ap (word_at (value a (bits numbers))) ex ∙ (t.each p.0 fits.0).word_is bits are numbers in
-    ap (λ (w : Word). applied op w (word_at (value a (bits numbers)) ys)) x ∙ second op (is_binary op) refl fits ey bits are numbers)
+    let x : word_at (value a (bits numbers)) xs ≡ term_at terms numbers p.0 = ap (word_at (value a (bits numbers))) ex ∙ (t.each p.0 fits.0 (first_operand terms n op p q e)).word_is bits are numbers in
+    ap (λ (w : Word). applied op w (word_at (value a (bits numbers)) ys)) x ∙ second op (is_binary op) refl fits ey (λ s. second_operand terms n op p q e s) bits are numbers)
   where
-    second : (op : TermOp) (s : Bool) → is_binary op ≡ s → IsFitting n (width_of terms) (Apply op p q) → (IsTrue (is_binary op) → ys ≡ block_at blocks q.0) → (bits : (ℕ → ℕ) → ℕ → Bool) → AreAtPlaces bits terms places → (numbers : ℕ → ℕ)
+    second : (op : TermOp) (s : Bool) → is_binary op ≡ s → IsFitting n (width_of terms) (Apply op p q) → (IsTrue (is_binary op) → ys ≡ block_at blocks q.0) → (is_binary op ≡ true → is_part terms q.0 n ≡ true) → (bits : (ℕ → ℕ) → ℕ → Bool) → AreAtPlaces bits terms places → (numbers : ℕ → ℕ)
         → applied op (term_at terms numbers p.0) (word_at (value a (bits numbers)) ys) ≡ applied op (term_at terms numbers p.0) (term_at terms numbers q.0)
-    second op true s fits ey bits are numbers =
-        let y : word_at (value a (bits numbers)) ys ≡ term_at terms numbers q.0 = ap (word_at (value a (bits numbers))) (ey s) ∙ (t.each q.0 (fits.1 s)).word_is bits are numbers in
+    second op true s fits ey part bits are numbers =
+        let y : word_at (value a (bits numbers)) ys ≡ term_at terms numbers q.0 = ap (word_at (value a (bits numbers))) (ey s) ∙ (t.each q.0 (fits.1 s) (part s)).word_is bits are numbers in
         ap (applied op (term_at terms numbers p.0)) y
-    second op false s fits ey bits are numbers = applied_unary op (term_at terms numbers p.0) (word_at (value a (bits numbers)) ys) (term_at terms numbers q.0) s
+    second op false s fits ey part bits are numbers = applied_unary op (term_at terms numbers p.0) (word_at (value a (bits numbers)) ys) (term_at terms numbers q.0) s
 
-pub cast_blasted : (a b : Circuit) (terms : List Term) (places : List ℕ) (n : ℕ) (p : TermId) (signed : Bool) (width : ℕ) (blocks : List (List ℕ)) (xs ls : List ℕ) → AreFitting terms → slice_get terms n ≡ Some (Cast p signed width) → IsTable a terms places n blocks
+pub cast_blasted : (a b : Circuit) (terms : List Term) (places : List ℕ) (n : ℕ) (p : TermId) (signed : Bool) (width : ℕ) (blocks : List (List ℕ)) (xs ls : List ℕ) → AreFitting terms → slice_get terms n ≡ Some (Cast p signed width) → HaveParts a terms places n blocks
     → xs ≡ block_at blocks p.0 → IsMadeWord a b ls (λ v. recast (word_at v xs) signed width) → Extends a b × IsBlasted b terms places n ls
 cast_blasted a b terms places n p signed width blocks xs ls fit e t ex m =
     let fits : IsFitting n (width_of terms) (Cast p signed width) = fit.fitting n (Cast p signed width) e in
     blasted_from a b terms places n (Cast p signed width) ls (λ v. recast (word_at v xs) signed width) fit e m (width_of_whole width (value_of signed (word_at (value a (λ k. false)) xs)))
-    (λ bits are numbers. ap (λ (w : Word). recast w signed width) (ap (word_at (value a (bits numbers))) ex ∙ (t.each p.0 fits.0).word_is bits are numbers))
+    (λ bits are numbers. ap (λ (w : Word). recast w signed width) (ap (word_at (value a (bits numbers))) ex ∙ (t.each p.0 fits.0 (cast_part terms n p signed width e)).word_is bits are numbers))
 
-pub slice_blasted : (a b : Circuit) (terms : List Term) (places : List ℕ) (n : ℕ) (p : TermId) (from width : ℕ) (blocks : List (List ℕ)) (xs ls : List ℕ) → AreFitting terms → slice_get terms n ≡ Some (Slice p from width) → IsTable a terms places n blocks
+pub slice_blasted : (a b : Circuit) (terms : List Term) (places : List ℕ) (n : ℕ) (p : TermId) (from width : ℕ) (blocks : List (List ℕ)) (xs ls : List ℕ) → AreFitting terms → slice_get terms n ≡ Some (Slice p from width) → HaveParts a terms places n blocks
     → xs ≡ block_at blocks p.0 → IsMadeWord a b ls (λ v. sliced (word_at v xs) from width) → Extends a b × IsBlasted b terms places n ls
 slice_blasted a b terms places n p from width blocks xs ls fit e t ex m =
     let fits : IsFitting n (width_of terms) (Slice p from width) = fit.fitting n (Slice p from width) e in
     blasted_from a b terms places n (Slice p from width) ls (λ v. sliced (word_at v xs) from width) fit e m refl
-    (λ bits are numbers. ap (λ (w : Word). sliced w from width) (ap (word_at (value a (bits numbers))) ex ∙ (t.each p.0 fits.0).word_is bits are numbers))
+    (λ bits are numbers. ap (λ (w : Word). sliced w from width) (ap (word_at (value a (bits numbers))) ex ∙ (t.each p.0 fits.0 (slice_part terms n p from width e)).word_is bits are numbers))
 
-pub choose_blasted : (a b : Circuit) (terms : List Term) (places : List ℕ) (n : ℕ) (test p q : TermId) (blocks : List (List ℕ)) (ts xs ys ls : List ℕ) → AreFitting terms → slice_get terms n ≡ Some (Choose test p q) → IsTable a terms places n blocks
+pub choose_blasted : (a b : Circuit) (terms : List Term) (places : List ℕ) (n : ℕ) (test p q : TermId) (blocks : List (List ℕ)) (ts xs ys ls : List ℕ) → AreFitting terms → slice_get terms n ≡ Some (Choose test p q) → HaveParts a terms places n blocks
     → ts ≡ block_at blocks test.0 → xs ≡ block_at blocks p.0 → ys ≡ block_at blocks q.0
     → IsMadeWord a b ls (λ v. cond (eqb (number v ts) 1) (word_at v xs) (word_at v ys)) → Extends a b × IsBlasted b terms places n ls
 choose_blasted a b terms places n test p q blocks ts xs ys ls fit e t et ex ey m =
     let fits : IsFitting n (width_of terms) (Choose test p q) = fit.fitting n (Choose test p q) e in
-    let wx : length xs ≡ width_of terms p.0 = ap length ex ∙ (t.each p.0 fits.1).width_is in
-    let wy : length ys ≡ width_of terms p.0 = ap length ey ∙ (t.each q.0 fits.2).width_is ∙ fits.4 in
+    let wx : length xs ≡ width_of terms p.0 = ap length ex ∙ (t.each p.0 fits.1 (first_arm terms n test p q e)).width_is in
+    let wy : length ys ≡ width_of terms p.0 = ap length ey ∙ (t.each q.0 fits.2 (second_arm terms n test p q e)).width_is ∙ fits.4 in
     blasted_from a b terms places n (Choose test p q) ls (λ v. cond (eqb (number v ts) 1) (word_at v xs) (word_at v ys)) fit e m
     (width_of_either (eqb (number (value a (λ k. false)) ts) 1) (word_at (value a (λ k. false)) xs) (word_at (value a (λ k. false)) ys) (width_of terms p.0) wx wy)
     (λ bits are numbers.
     let v = value a (bits numbers) in
-    ap (λ (w : Word). cond (eqb w.value 1) (word_at v xs) (word_at v ys)) (ap (word_at v) et ∙ (t.each test.0 fits.0).word_is bits are numbers)
-    ∙ ap (λ (w : Word). cond (eqb (term_at terms numbers test.0).value 1) w (word_at v ys)) (ap (word_at v) ex ∙ (t.each p.0 fits.1).word_is bits are numbers)
-    ∙ ap (λ (w : Word). cond (eqb (term_at terms numbers test.0).value 1) (term_at terms numbers p.0) w) (ap (word_at v) ey ∙ (t.each q.0 fits.2).word_is bits are numbers))
+    ap (λ (w : Word). cond (eqb w.value 1) (word_at v xs) (word_at v ys)) (ap (word_at v) et ∙ (t.each test.0 fits.0 (test_part terms n test p q e)).word_is bits are numbers)
+    ∙ ap (λ (w : Word). cond (eqb (term_at terms numbers test.0).value 1) w (word_at v ys)) (ap (word_at v) ex ∙ (t.each p.0 fits.1 (first_arm terms n test p q e)).word_is bits are numbers)
+    ∙ ap (λ (w : Word). cond (eqb (term_at terms numbers test.0).value 1) (term_at terms numbers p.0) w) (ap (word_at v) ey ∙ (t.each q.0 fits.2 (second_arm terms n test p q e)).word_is bits are numbers))
 
 pub blasted_kept : (a b : Circuit) (terms : List Term) (places : List ℕ) (n : ℕ) (ls : List ℕ) → Extends a b → IsBlasted a terms places n ls → IsBlasted b terms places n ls
 blasted_kept a b terms places n ls e h = record {
@@ -156,35 +159,48 @@ blasted_kept a b terms places n ls e h = record {
   word_is = λ bits are numbers. word_kept a b (bits numbers) ls e h.inside ∙ h.word_is bits are numbers;
 }
 
-pub table_none : (a : Circuit) (terms : List Term) (places : List ℕ) (blocks : List (List ℕ)) → blocks ≡ [] → IsTable a terms places 0 blocks
-table_none a terms places blocks e = record { one_each = ap length e; each = λ n l. absurd (omega arith) }
+pub table_none : (a : Circuit) (terms : List Term) (places : List ℕ) (marks : List Bool) (blocks : List (List ℕ)) → blocks ≡ [] → IsTable a terms places marks 0 blocks
+table_none a terms places marks blocks e = record { one_each = ap length e; each = λ n l h. absurd (omega arith); none = λ n l h. absurd (omega arith) }
 
 -- one more block
-pub table_more : (a b : Circuit) (terms : List Term) (places : List ℕ) (n : ℕ) (blocks more : List (List ℕ)) (ls : List ℕ) → more ≡ blocks ++ ls ∷ [] → IsTable a terms places n blocks → Extends a b × IsBlasted b terms places n ls → IsTable b terms places (n + 1) more
-table_more a b terms places n blocks more ls e t m = subst (λ (k : List (List ℕ)). IsTable b terms places (n + 1) k) (sym e) (record {
+pub table_more : (a b : Circuit) (terms : List Term) (places : List ℕ) (marks : List Bool) (reached : Bool) (n : ℕ) (blocks more : List (List ℕ)) (ls : List ℕ) → more ≡ blocks ++ ls ∷ [] → reached ≡ get_or marks n false → IsTable a terms places marks n blocks → IsReachedWord a b terms places reached n ls → IsTable b terms places marks (n + 1) more
+table_more a b terms places marks reached n blocks more ls e is t m = subst (λ (k : List (List ℕ)). IsTable b terms places marks (n + 1) k) (sym e) (record {
   one_each = omega (arith, length-append blocks (ls ∷ []), t.one_each);
-  each = λ j l. elim (cases_lt j n) [
-    | inl h ↦ subst (λ (k : List ℕ). IsBlasted b terms places j k) (sym (get_or_append_left blocks (ls ∷ []) [] j (omega (arith, t.one_each)))) (blasted_kept a b terms places j (block_at blocks j) m.0 (t.each j h))
-    | inr h ↦
-        (let same : n ≡ j = omega arith in
-        subst (λ (k : ℕ). IsBlasted b terms places k (block_at (blocks ++ ls ∷ []) k)) same
-        (subst (λ (k : List ℕ). IsBlasted b terms places n k) (sym (get_or_push blocks ls [] n t.one_each)) m.1))
+  each = λ j l h. elim (cases_lt j n) [
+    | inl low ↦ subst (λ (k : List ℕ). IsBlasted b terms places j k) (sym (get_or_append_left blocks (ls ∷ []) [] j (omega (arith, t.one_each)))) (blasted_kept a b terms places j (block_at blocks j) m.extends (t.each j low h))
+    | inr high ↦
+        (let same : j ≡ n = omega arith in
+        subst (λ (k : ℕ). IsBlasted b terms places k (block_at (blocks ++ ls ∷ []) k)) (sym same)
+        (subst (λ (k : List ℕ). IsBlasted b terms places n k) (sym (get_or_push blocks ls [] n t.one_each)) (m.blasted (is ∙ ap (λ (k : ℕ). get_or marks k false) (sym same) ∙ h))))
+  ];
+  none = λ j l h. elim (cases_lt j n) [
+    | inl low ↦ get_or_append_left blocks (ls ∷ []) [] j (omega (arith, t.one_each)) ∙ t.none j low h
+    | inr high ↦
+        (let same : j ≡ n = omega arith in
+        ap (λ (k : ℕ). block_at (blocks ++ ls ∷ []) k) same ∙ get_or_push blocks ls [] n t.one_each ∙ m.none (is ∙ ap (λ (k : ℕ). get_or marks k false) (sym same) ∙ h))
   ];
 })
 
+-- the parts of a reached term are reached
+pub parts_there : (a : Circuit) (terms : List Term) (places : List ℕ) (marks : List Bool) (n : ℕ) (blocks : List (List ℕ)) → length marks ≡ length terms → n < length terms → AreClosed (is_part terms) 0 marks → get_or marks n false ≡ true → IsTable a terms places marks n blocks → HaveParts a terms places n blocks
+parts_there a terms places marks n blocks long inside closed marked t = record {
+  one_each = t.one_each;
+  each = λ p l h. t.each p l (closed p (omega arith) (record { reader = n; above = omega arith; inside = omega arith; marked = marked; reads_it = h }));
+}
+
 -- the second operand, or the first again
-pub second_width : (a : Circuit) (terms : List Term) (places : List ℕ) (n p q : ℕ) (op : TermOp) (blocks : List (List ℕ)) (xs ys : List ℕ) → IsTable a terms places n blocks → AreOperands n (width_of terms) op p q
-    → xs ≡ block_at blocks p → (IsTrue (is_binary op) → ys ≡ block_at blocks q) → (is_binary op ≡ false → ys ≡ block_at blocks p) → is_shift op ≡ false → length ys ≡ length xs
-second_width a terms places n p q op blocks xs ys t f ex eb eu shift = by (is_binary op) refl
+pub second_width : (a : Circuit) (terms : List Term) (places : List ℕ) (n : ℕ) (p q : TermId) (op : TermOp) (blocks : List (List ℕ)) (xs ys : List ℕ) → slice_get terms n ≡ Some (Apply op p q) → HaveParts a terms places n blocks → AreOperands n (width_of terms) op p.0 q.0
+    → xs ≡ block_at blocks p.0 → (IsTrue (is_binary op) → ys ≡ block_at blocks q.0) → (is_binary op ≡ false → ys ≡ block_at blocks p.0) → is_shift op ≡ false → length ys ≡ length xs
+second_width a terms places n p q op blocks xs ys e t f ex eb eu shift = by (is_binary op) refl
   where
     by : (s : Bool) → is_binary op ≡ s → length ys ≡ length xs
-    by true s = ap length (eb s) ∙ (t.each q (f.1 s)).width_is ∙ f.3 s shift ∙ sym ((t.each p f.0).width_is) ∙ sym (ap length ex)
+    by true s = ap length (eb s) ∙ (t.each q.0 (f.1 s) (second_operand terms n op p q e s)).width_is ∙ f.3 s shift ∙ sym ((t.each p.0 f.0 (first_operand terms n op p q e)).width_is) ∙ sym (ap length ex)
     by false s = ap length (eu s) ∙ sym (ap length ex)
 
-pub second_inside : (a : Circuit) (terms : List Term) (places : List ℕ) (n p q : ℕ) (op : TermOp) (blocks : List (List ℕ)) (ys : List ℕ) → IsTable a terms places n blocks → AreOperands n (width_of terms) op p q
-    → (IsTrue (is_binary op) → ys ≡ block_at blocks q) → (is_binary op ≡ false → ys ≡ block_at blocks p) → AreIn a ys
-second_inside a terms places n p q op blocks ys t f eb eu = by (is_binary op) refl
+pub second_inside : (a : Circuit) (terms : List Term) (places : List ℕ) (n : ℕ) (p q : TermId) (op : TermOp) (blocks : List (List ℕ)) (ys : List ℕ) → slice_get terms n ≡ Some (Apply op p q) → HaveParts a terms places n blocks → AreOperands n (width_of terms) op p.0 q.0
+    → (IsTrue (is_binary op) → ys ≡ block_at blocks q.0) → (is_binary op ≡ false → ys ≡ block_at blocks p.0) → AreIn a ys
+second_inside a terms places n p q op blocks ys e t f eb eu = by (is_binary op) refl
   where
     by : (s : Bool) → is_binary op ≡ s → AreIn a ys
-    by true s = in_same a ys (block_at blocks q) (eb s) (t.each q (f.1 s)).inside
-    by false s = in_same a ys (block_at blocks p) (eu s) (t.each p f.0).inside
+    by true s = in_same a ys (block_at blocks q.0) (eb s) (t.each q.0 (f.1 s) (second_operand terms n op p q e s)).inside
+    by false s = in_same a ys (block_at blocks p.0) (eu s) (t.each p.0 f.0 (first_operand terms n op p q e)).inside

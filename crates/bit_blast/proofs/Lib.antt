@@ -1,3 +1,4 @@
+pub mod Reaching
 pub mod Arithmetical
 pub mod Signed
 pub mod Tested

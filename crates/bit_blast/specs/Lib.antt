@@ -1,2 +1,3 @@
 pub mod Inputs
 pub mod Blasted
+pub mod Reached

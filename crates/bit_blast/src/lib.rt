@@ -7,6 +7,7 @@ mod division;
 mod inputs;
 mod moves;
 mod overflow;
+mod reached;
 mod signs;
 mod terms_to_gates;
 mod tests_of_words;

@@ -1,14 +1,18 @@
-ghost use Rattle.std.specs.Prelude.{◌≡◌, ◌≤◌, ◌<◌, ℕ, Bool, false, IfOk, IsTrue, length, map, All};
+ghost use Rattle.std.specs.Prelude.{◌≡◌, ◌≤◌, ◌<◌, ℕ, Bool, true, false, IfOk, IsTrue, length, map, All};
 ghost use Rattle.sym_terms.specs.Ops.{is_binary};
 ghost use Rattle.region_pool.specs.Blocks.{block_at};
 ghost use Rattle.bit_gates.specs.Made.{Extends};
+ghost use Rattle.gate_trim.specs.Marks.{AreClosed};
+ghost use Rattle.bit_blast.specs.Reached.{is_part};
 ghost use Rattle.bit_blast.specs.Inputs.{HavePlaces};
-ghost use Rattle.bit_blast.specs.Blasted.{IsBlasted, IsTable, AreGatesOf};
+ghost use Rattle.bit_blast.specs.Blasted.{IsBlasted, IsTable, HaveParts, IsReachedWord, AreGatesOf};
 
 use crate::apply::{apply, takes_two};
 use crate::inputs::{Inputs, input_widths, place_inputs};
 use crate::moves::{cast_signed, cast_unsigned, choose_word, slice_word};
+use crate::reached::reached_terms;
 use bit_gates::{Gates, Net, constant_word, input_word};
+use gate_trim::{Trimmed, trim};
 use region_pool::{BlockRef, Region};
 use std::alloc::Global;
 use sym_terms::{Term, TermId, TermOp, Terms};
@@ -47,7 +51,7 @@ fn blast_term(
 ) -> Result<Vec<u64>, NoMemory>
     requires inside { n < length terms.now }
     requires placed { HavePlaces terms.now places.now net.old.inputs }
-    requires table { IsTable net.old terms.now places.now n table.now.blocks }
+    requires table { HaveParts net.old terms.now places.now n table.now.blocks }
     ensures { IfOk result (λ word. Extends net.old net.new × IsBlasted net.new terms.now places.now n word.items) }
 {
     let _count = terms.len();
@@ -80,19 +84,44 @@ fn blast_term(
     }
 }
 
-/// The literals of all terms, as blocks.
+/// The literals of the term with this number if a root reaches it, and else none.
+fn reached_word(
+    alloc: Global,
+    net: &mut Net,
+    terms: &Terms,
+    places: &[usize],
+    table: &Region,
+    reached: bool,
+    n: usize,
+) -> Result<Vec<u64>, NoMemory>
+    requires inside { n < length terms.now }
+    requires placed { HavePlaces terms.now places.now net.old.inputs }
+    requires table { reached ≡ true → HaveParts net.old terms.now places.now n table.now.blocks }
+    ensures { IfOk result (λ word. IsReachedWord net.old net.new terms.now places.now reached n word.items) }
+{
+    if reached {
+        Ok(blast_term(alloc, net, terms, places, table, n)?)
+    } else {
+        Ok(Vec::new(alloc))
+    }
+}
+
+/// The literals of all terms that are reached, as blocks.
 fn blast_terms(
     alloc: Global,
     net: &mut Net,
     terms: &Terms,
     places: &[usize],
+    marks: &[bool],
 ) -> Result<Region, NoMemory>
-    requires { HavePlaces terms.now places.now net.old.inputs }
-    ensures { IfOk result (λ table. (net.new.inputs ≡ net.old.inputs) × IsTable net.new terms.now places.now (length terms.now) table.blocks) }
+    requires places { HavePlaces terms.now places.now net.old.inputs }
+    requires one_each { length marks.now ≡ length terms.now }
+    requires closed { AreClosed (is_part terms.now) 0 marks.now }
+    ensures { IfOk result (λ table. (net.new.inputs ≡ net.old.inputs) × IsTable net.new terms.now places.now marks.now (length terms.now) table.blocks) }
 {
     let mut table = Region::new(alloc);
     for n in 0..terms.len() {
-        let word = blast_term(alloc, net, terms, places, &table, n)?;
+        let word = reached_word(alloc, net, terms, places, &table, marks[n], n)?;
         table.put(word.as_slice())?;
     }
     Ok(table)
@@ -112,7 +141,7 @@ fn root_words(alloc: Global, table: &Region, roots: &[TermId]) -> Result<Vec<Vec
 }
 
 /// Gates that equal terms: for each root one literal a bit, the lowest first. The numbers of the inputs are given by
-/// their bits, none of which stands twice.
+/// their bits, none of which stands twice. Only what the roots reach is made, and each gate is read.
 pub fn blast(alloc: Global, terms: &Terms, roots: &[TermId]) -> Result<Gates, NoMemory>
     requires { All (λ root. root.0 < length terms.now) roots.now }
     ensures { IfOk result (λ gates. AreGatesOf terms.now roots.now gates) }
@@ -120,13 +149,17 @@ pub fn blast(alloc: Global, terms: &Terms, roots: &[TermId]) -> Result<Gates, No
     let _count = terms.len();
     let widths = input_widths(alloc, terms)?;
     let Inputs { bits, places } = place_inputs(alloc, widths.as_slice())?;
+    let marks = reached_terms(alloc, terms, roots)?;
     let mut net = Net::new(alloc, bits.len())?;
-    let table = blast_terms(alloc, &mut net, terms, places.as_slice())?;
+    let table = blast_terms(alloc, &mut net, terms, places.as_slice(), marks.as_slice())?;
     let words = root_words(alloc, &table, roots)?;
-    let gates = Vec::from_slice(alloc, net.gates())?;
+    let Trimmed {
+        gates,
+        roots: literals,
+    } = trim(alloc, net.inputs(), net.gates(), words.as_slice())?;
     Ok(Gates {
         inputs: bits,
         gates,
-        roots: words,
+        roots: literals,
     })
 }

@@ -4,6 +4,7 @@ use Rattle.region_pool.specs.Blocks.{block_at}
 use Rattle.word_bits.specs.Words.{IsWidth, IsWord}
 use Rattle.sym_terms.specs.declared.term.Term.TheVariants.{Cast}
 use Rattle.sym_terms.specs.Terms.{width_of, is_shift_width, AreOperands}
+use Rattle.bit_blast.proofs.Reaching.{first_operand, cast_part, slice_part, test_part, first_arm, second_arm}
 use Rattle.bit_blast.proofs.Blasting.{part_width, part_is_width, second_width, second_inside, constant_blasted, input_blasted, apply_blasted, cast_blasted, choose_blasted, slice_blasted}
 use Rattle.bit_blast.proofs.terms_to_gates.blast_term.Goals as goal
 
@@ -36,31 +37,31 @@ pub apply-requires-clause-some_bits : goal.apply-requires-clause-some_bits
 apply-requires-clause-some_bits c =
     let f : AreOperands c.args.n (width_of c.args.terms.now) c.in-Apply.op c.in-Apply.a.0 c.in-Apply.b.0 = c.in-Apply.ensures.fitting.fitting _ _ c.in-Apply.ensures.term in
     let e : length c.word_of-xs.result.now ≡ length (block_at c.args.table.now.blocks c.in-Apply.a.0) = ap length c.word_of-xs.ensures in
-    let w : IsWidth (length (block_at c.args.table.now.blocks c.in-Apply.a.0)) = part_is_width c.args.net.now c.args.terms.now c.args.places.now c.args.n c.in-Apply.a.0 c.args.table.now.blocks c.in-Apply.ensures.fitting c.requires.inside c.requires.table f.0 in
+    let w : IsWidth (length (block_at c.args.table.now.blocks c.in-Apply.a.0)) = part_is_width c.args.net.now c.args.terms.now c.args.places.now c.args.n c.in-Apply.a.0 c.args.table.now.blocks c.in-Apply.ensures.fitting c.requires.inside c.requires.table f.0 (first_operand c.args.terms.now c.args.n c.in-Apply.op c.in-Apply.a c.in-Apply.b c.in-Apply.ensures.term) in
     omega (arith, w.some_bits)
 
 pub apply-requires-clause-few_bits : goal.apply-requires-clause-few_bits
 apply-requires-clause-few_bits c =
     let f : AreOperands c.args.n (width_of c.args.terms.now) c.in-Apply.op c.in-Apply.a.0 c.in-Apply.b.0 = c.in-Apply.ensures.fitting.fitting _ _ c.in-Apply.ensures.term in
     let e : length c.word_of-xs.result.now ≡ length (block_at c.args.table.now.blocks c.in-Apply.a.0) = ap length c.word_of-xs.ensures in
-    let w : IsWidth (length (block_at c.args.table.now.blocks c.in-Apply.a.0)) = part_is_width c.args.net.now c.args.terms.now c.args.places.now c.args.n c.in-Apply.a.0 c.args.table.now.blocks c.in-Apply.ensures.fitting c.requires.inside c.requires.table f.0 in
+    let w : IsWidth (length (block_at c.args.table.now.blocks c.in-Apply.a.0)) = part_is_width c.args.net.now c.args.terms.now c.args.places.now c.args.n c.in-Apply.a.0 c.args.table.now.blocks c.in-Apply.ensures.fitting c.requires.inside c.requires.table f.0 (first_operand c.args.terms.now c.args.n c.in-Apply.op c.in-Apply.a c.in-Apply.b c.in-Apply.ensures.term) in
     omega (arith, w.few_bits)
 
 pub apply-requires-clause-power : goal.apply-requires-clause-power
 apply-requires-clause-power c =
     let f : AreOperands c.args.n (width_of c.args.terms.now) c.in-Apply.op c.in-Apply.a.0 c.in-Apply.b.0 = c.in-Apply.ensures.fitting.fitting _ _ c.in-Apply.ensures.term in
     let e : length c.word_of-xs.result.now ≡ length (block_at c.args.table.now.blocks c.in-Apply.a.0) = ap length c.word_of-xs.ensures in
-    λ s. subst (λ (k : ℕ). IsTrue (is_shift_width k)) (sym (e ∙ part_width c.args.net.now c.args.terms.now c.args.places.now c.args.n c.in-Apply.a.0 c.args.table.now.blocks c.requires.table f.0)) (f.2 s)
+    λ s. subst (λ (k : ℕ). IsTrue (is_shift_width k)) (sym (e ∙ part_width c.args.net.now c.args.terms.now c.args.places.now c.args.n c.in-Apply.a.0 c.args.table.now.blocks c.requires.table f.0 (first_operand c.args.terms.now c.args.n c.in-Apply.op c.in-Apply.a c.in-Apply.b c.in-Apply.ensures.term))) (f.2 s)
 
 pub apply-requires-clause-one_width : goal.apply-requires-clause-one_width
 apply-requires-clause-one_width c =
     let f : AreOperands c.args.n (width_of c.args.terms.now) c.in-Apply.op c.in-Apply.a.0 c.in-Apply.b.0 = c.in-Apply.ensures.fitting.fitting _ _ c.in-Apply.ensures.term in
-    λ s. second_width c.args.net.now c.args.terms.now c.args.places.now c.args.n c.in-Apply.a.0 c.in-Apply.b.0 c.in-Apply.op c.args.table.now.blocks _ _ c.requires.table f c.word_of-xs.ensures c.second_word-ys.ensures.binary c.second_word-ys.ensures.unary s
+    λ s. second_width c.args.net.now c.args.terms.now c.args.places.now c.args.n c.in-Apply.a c.in-Apply.b c.in-Apply.op c.args.table.now.blocks _ _ c.in-Apply.ensures.term c.requires.table f c.word_of-xs.ensures c.second_word-ys.ensures.binary c.second_word-ys.ensures.unary s
 
 pub apply-requires-clause-ys_inside : goal.apply-requires-clause-ys_inside
 apply-requires-clause-ys_inside c =
     let f : AreOperands c.args.n (width_of c.args.terms.now) c.in-Apply.op c.in-Apply.a.0 c.in-Apply.b.0 = c.in-Apply.ensures.fitting.fitting _ _ c.in-Apply.ensures.term in
-    second_inside c.args.net.now c.args.terms.now c.args.places.now c.args.n c.in-Apply.a.0 c.in-Apply.b.0 c.in-Apply.op c.args.table.now.blocks _ c.requires.table f c.second_word-ys.ensures.binary c.second_word-ys.ensures.unary
+    second_inside c.args.net.now c.args.terms.now c.args.places.now c.args.n c.in-Apply.a c.in-Apply.b c.in-Apply.op c.args.table.now.blocks _ c.in-Apply.ensures.term c.requires.table f c.second_word-ys.ensures.binary c.second_word-ys.ensures.unary
 
 pub word_of-xs-requires-in-Cast : goal.word_of-xs-requires-in-Cast
 word_of-xs-requires-in-Cast c =
@@ -70,7 +71,7 @@ word_of-xs-requires-in-Cast c =
 pub cast_signed-requires-clause-some_bits : goal.cast_signed-requires-clause-some_bits
 cast_signed-requires-clause-some_bits c =
     let f : (c.in-Cast.a.0 < c.args.n) × IsWidth c.in-Cast.width = c.in-Cast.ensures.fitting.fitting _ _ c.in-Cast.ensures.term in
-    let w : IsWidth (length (block_at c.args.table.now.blocks c.in-Cast.a.0)) = part_is_width c.args.net.now c.args.terms.now c.args.places.now c.args.n c.in-Cast.a.0 c.args.table.now.blocks c.in-Cast.ensures.fitting c.requires.inside c.requires.table f.0 in
+    let w : IsWidth (length (block_at c.args.table.now.blocks c.in-Cast.a.0)) = part_is_width c.args.net.now c.args.terms.now c.args.places.now c.args.n c.in-Cast.a.0 c.args.table.now.blocks c.in-Cast.ensures.fitting c.requires.inside c.requires.table f.0 (cast_part c.args.terms.now c.args.n c.in-Cast.a c.in-Cast.signed c.in-Cast.width c.in-Cast.ensures.term) in
     let e : length c.word_of-xs-in-Cast.result.now ≡ length (block_at c.args.table.now.blocks c.in-Cast.a.0) = ap length c.word_of-xs-in-Cast.ensures in
     omega (arith, w.some_bits)
 
@@ -92,12 +93,12 @@ word_of-ys-requires c =
 pub choose_word-requires-clause-one_bit : goal.choose_word-requires-clause-one_bit
 choose_word-requires-clause-one_bit c =
     let f : (c.in-Choose.test.0 < c.args.n) × (c.in-Choose.a.0 < c.args.n) × (c.in-Choose.b.0 < c.args.n) × (width_of c.args.terms.now c.in-Choose.test.0 ≡ 1) × (width_of c.args.terms.now c.in-Choose.b.0 ≡ width_of c.args.terms.now c.in-Choose.a.0) = c.in-Choose.ensures.fitting.fitting _ _ c.in-Choose.ensures.term in
-    ap length c.word_of-bit.ensures ∙ part_width c.args.net.now c.args.terms.now c.args.places.now c.args.n c.in-Choose.test.0 c.args.table.now.blocks c.requires.table f.0 ∙ f.3
+    ap length c.word_of-bit.ensures ∙ part_width c.args.net.now c.args.terms.now c.args.places.now c.args.n c.in-Choose.test.0 c.args.table.now.blocks c.requires.table f.0 (test_part c.args.terms.now c.args.n c.in-Choose.test c.in-Choose.a c.in-Choose.b c.in-Choose.ensures.term) ∙ f.3
 
 pub choose_word-requires-clause-one_width : goal.choose_word-requires-clause-one_width
 choose_word-requires-clause-one_width c =
     let f : (c.in-Choose.test.0 < c.args.n) × (c.in-Choose.a.0 < c.args.n) × (c.in-Choose.b.0 < c.args.n) × (width_of c.args.terms.now c.in-Choose.test.0 ≡ 1) × (width_of c.args.terms.now c.in-Choose.b.0 ≡ width_of c.args.terms.now c.in-Choose.a.0) = c.in-Choose.ensures.fitting.fitting _ _ c.in-Choose.ensures.term in
-    ap length c.word_of-ys.ensures ∙ part_width c.args.net.now c.args.terms.now c.args.places.now c.args.n c.in-Choose.b.0 c.args.table.now.blocks c.requires.table f.2 ∙ f.4 ∙ sym (part_width c.args.net.now c.args.terms.now c.args.places.now c.args.n c.in-Choose.a.0 c.args.table.now.blocks c.requires.table f.1) ∙ sym (ap length c.word_of-xs-in-Choose.ensures)
+    ap length c.word_of-ys.ensures ∙ part_width c.args.net.now c.args.terms.now c.args.places.now c.args.n c.in-Choose.b.0 c.args.table.now.blocks c.requires.table f.2 (second_arm c.args.terms.now c.args.n c.in-Choose.test c.in-Choose.a c.in-Choose.b c.in-Choose.ensures.term) ∙ f.4 ∙ sym (part_width c.args.net.now c.args.terms.now c.args.places.now c.args.n c.in-Choose.a.0 c.args.table.now.blocks c.requires.table f.1 (first_arm c.args.terms.now c.args.n c.in-Choose.test c.in-Choose.a c.in-Choose.b c.in-Choose.ensures.term)) ∙ sym (ap length c.word_of-xs-in-Choose.ensures)
 
 pub word_of-xs-requires-in-Slice : goal.word_of-xs-requires-in-Slice
 word_of-xs-requires-in-Slice c =
@@ -107,7 +108,7 @@ word_of-xs-requires-in-Slice c =
 pub slice_word-requires-clause-within : goal.slice_word-requires-clause-within
 slice_word-requires-clause-within c =
     let f : (c.in-Slice.a.0 < c.args.n) × (1 ≤ c.in-Slice.width) × (c.in-Slice.from + c.in-Slice.width ≤ width_of c.args.terms.now c.in-Slice.a.0) = c.in-Slice.ensures.fitting.fitting _ _ c.in-Slice.ensures.term in
-    let e : length c.word_of-xs-in-Slice.result.now ≡ width_of c.args.terms.now c.in-Slice.a.0 = ap length c.word_of-xs-in-Slice.ensures ∙ part_width c.args.net.now c.args.terms.now c.args.places.now c.args.n c.in-Slice.a.0 c.args.table.now.blocks c.requires.table f.0 in
+    let e : length c.word_of-xs-in-Slice.result.now ≡ width_of c.args.terms.now c.in-Slice.a.0 = ap length c.word_of-xs-in-Slice.ensures ∙ part_width c.args.net.now c.args.terms.now c.args.places.now c.args.n c.in-Slice.a.0 c.args.table.now.blocks c.requires.table f.0 (slice_part c.args.terms.now c.args.n c.in-Slice.a c.in-Slice.from c.in-Slice.width c.in-Slice.ensures.term) in
     omega (arith, f.2)
 
 pub returns-in_ok-constant_word-in-Constant : goal.returns-in_ok-constant_word-in-Constant

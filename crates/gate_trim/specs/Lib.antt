@@ -1,0 +1,4 @@
+pub mod Reading
+pub mod Marks
+pub mod Trimmed
+pub mod Moves

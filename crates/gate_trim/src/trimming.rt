@@ -1,0 +1,39 @@
+ghost use Rattle.std.specs.Prelude.{◌≡◌, IfOk, All, map};
+ghost use Rattle.bit_gates.specs.Made.{AreIn};
+ghost use Rattle.gate_trim.specs.Trimmed.{circuit, IsCircuit, IsTrimmed};
+
+use crate::marks::wanted_gates;
+use crate::moves::{Remade, move_gates, moved_words};
+use bit_gates::Gate;
+use std::alloc::Global;
+use vk_core::NoMemory;
+
+/// Gates, and words of literals of their variables and of the inputs.
+#[derive(Drop)]
+pub struct Trimmed {
+    pub gates: Vec<Gate>,
+    pub roots: Vec<Vec<u64>>,
+}
+
+/// The gates that some root needs. The words of the roots keep their order, their widths and their values.
+pub fn trim(
+    alloc: Global,
+    inputs: usize,
+    gates: &[Gate],
+    roots: &[Vec<u64>],
+) -> Result<Trimmed, NoMemory>
+    requires gates { IsCircuit (circuit inputs gates.now) }
+    requires roots { All (λ word. AreIn (circuit inputs gates.now) word.items) roots.now }
+    ensures { IfOk result (λ r. IsTrimmed (circuit inputs gates.now) (map (λ word. word.items) roots.now) (circuit inputs r.gates.items) (map (λ word. word.items) r.roots.items)) }
+{
+    let marks = wanted_gates(alloc, inputs, gates, roots)?;
+    let Remade {
+        gates: made,
+        places,
+    } = move_gates(alloc, inputs, gates, marks.as_slice())?;
+    let words = moved_words(alloc, places.as_slice(), inputs, roots)?;
+    Ok(Trimmed {
+        gates: made,
+        roots: words,
+    })
+}
