@@ -4,6 +4,7 @@
 mod declarations;
 mod names;
 mod places;
+mod text;
 mod tree;
 mod types;
 
