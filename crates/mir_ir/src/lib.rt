@@ -4,7 +4,6 @@
 mod declarations;
 mod names;
 mod places;
-mod text;
 mod tree;
 mod types;
 

@@ -1,8 +1,8 @@
 use Rattle.std.proofs.Common.{rules}
 use Rattle.mir_ir.specs.declared.types.Ty.TheOpen.{Ty-F}
 use Rattle.mir_ir.specs.declared.types.Ty.TheViews.{the_lemmas}
-use Rattle.mir_ir.proofs.Texts.{shown, shown_level}
-use Rattle.mir_ir.proofs.text.+types.Goals as goal
+use Rattle.mir_print.proofs.Texts.{shown, shown_level}
+use Rattle.mir_print.proofs.types.+types.Goals as goal
 
 pub push_type-returns-in_ok-push_text-in-Int : goal.push_type-returns-in_ok-push_text-in-Int
 push_type-returns-in_ok-push_text-in-Int t c = shown_level _ _ _ (Ty-F.Int c.in-Int.int) (search (rules, the_lemmas)) (search rules)

@@ -4,7 +4,7 @@ use Rattle.mir_ir.specs.declared.types.Ty.{Ty, out-Ty, map-Ty, fold_out-Ty}
 use Rattle.mir_ir.specs.declared.types.Ty.TheOpen.{Ty-F}
 use Rattle.mir_ir.specs.declared.types.Ty.TheViews.{roll-Ty}
 use Rattle.mir_ir.specs.declared.types.Ty.TheFolds.{fold-roll-Ty}
-use Rattle.mir_ir.specs.Text.{behind_commas, form_text, type_text, with_commas}
+use Rattle.mir_print.specs.Types.{behind_commas, form_text, type_text, with_commas}
 
 -- one level of a type, whose parts are types
 abbrev pub level_text : Ty-F Ty → List ℕ

@@ -1,22 +1,20 @@
 ghost use Rattle.std.specs.Prelude.{◌≡◌, ◌++◌, OnOk, IfOk, codes, map};
 ghost use Rattle.std.specs.Fmt.{decimal};
-ghost use Rattle.mir_ir.specs.Text.{comma_of_one, pointer_word, reference_word, type_text, with_commas};
+ghost use Rattle.mir_print.specs.Types.{comma_of_one, pointer_word, reference_word, type_text, with_commas};
 
-use crate::types::Ty;
-use itoa::Buffer;
+use crate::pushes::{push_decimal, push_name, push_text};
+use mir_ir::Ty;
 use std::alloc::Global;
 use vk_core::{Name, NoMemory};
 
-impl Ty {
-    /// The canonical text of the type. Two types are one where their texts are equal.
-    pub fn text(&self, alloc: Global) -> Result<Name, NoMemory>
-        ensures { IfOk result (λ name. name ≡ type_text self.now) }
-    {
-        let mut out = Vec::new(alloc);
-        push_type(&mut out, self)?;
-        let name = Name::from_bytes(alloc, out.as_slice())?;
-        Ok(name)
-    }
+/// The canonical text of a type. Two types are one where their texts are equal.
+pub fn type_text(alloc: Global, ty: &Ty) -> Result<Name, NoMemory>
+    ensures { IfOk result (λ name. name ≡ type_text ty.now) }
+{
+    let mut out = Vec::new(alloc);
+    push_type(&mut out, ty)?;
+    let name = Name::from_bytes(alloc, out.as_slice())?;
+    Ok(name)
 }
 
 /// Adds the canonical text of a type.
@@ -112,7 +110,8 @@ fn push_dyn(out: &mut Vec<u8>, path: &Name) -> Result<(), NoMemory>
     Ok(())
 }
 
-fn reference_word(mutable: bool) -> &'static str
+/// `&mut ` or `&`.
+pub fn reference_word(mutable: bool) -> &'static str
     ensures { result.now ≡ reference_word mutable }
 {
     if mutable { "&mut " } else { "&" }
@@ -122,29 +121,4 @@ fn pointer_word(mutable: bool) -> &'static str
     ensures { result.now ≡ pointer_word mutable }
 {
     if mutable { "*mut " } else { "*const " }
-}
-
-/// Adds the bytes of a text.
-pub fn push_text(out: &mut Vec<u8>, text: &str) -> Result<(), NoMemory>
-    ensures { OnOk result (out.new.items ≡ out.old.items ++ text.now) }
-{
-    out.extend_from_slice(text.as_bytes())?;
-    Ok(())
-}
-
-/// Adds a number in decimal.
-pub fn push_decimal(out: &mut Vec<u8>, number: u128) -> Result<(), NoMemory>
-    ensures { OnOk result (out.new.items ≡ out.old.items ++ decimal number) }
-{
-    let mut buffer = Buffer::new();
-    out.extend_from_slice(buffer.format(number).as_bytes())?;
-    Ok(())
-}
-
-/// Adds the bytes of a name.
-pub fn push_name(out: &mut Vec<u8>, name: &Name) -> Result<(), NoMemory>
-    ensures { OnOk result (out.new.items ≡ out.old.items ++ name.now) }
-{
-    out.extend_from_slice(name.as_bytes())?;
-    Ok(())
 }
