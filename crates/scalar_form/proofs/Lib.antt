@@ -1,0 +1,3 @@
+pub mod FormLaws
+pub mod OperandLaws
+pub mod Pushes
