@@ -1,17 +1,14 @@
 -- What is known of the parts of a function of the form.
-use Rattle.std.proofs.Common.{◌≡◌, ℕ, ◌<◌, ◌≤◌, ◌^◌, ◌&&◌, ◌==◌, Bool, true, false, cond, List, [], ◌∷◌, length, Option, Some, None, find, subst, sym, refl, arith}
+use Rattle.std.proofs.Common.{◌≡◌, ℕ, ◌<◌, ◌≤◌, ◌&&◌, ◌==◌, Bool, true, false, cond, List, [], ◌∷◌, length, Some, find, subst, sym, refl}
 use Rattle.std.specs.Prelude.{nat_lt, nat_le}
 use Rattle.std.proofs.lemmas.Bool.{eqb-true, ltb-true, leb-true}
 use Rattle.std.proofs.lemmas.Option.{same_Some, none-some}
 use Rattle.mir_ir.specs.declared.tree.Block.{Block}
 use Rattle.mir_ir.specs.declared.tree.Function.{Function}
-use Rattle.mir_ir.specs.declared.tree.Statement.{Statement}
-use Rattle.scalar_form.specs.declared.kinds.ValueKind.TheVariants as kind
 use Rattle.scalar_form.specs.Form.{is_scalar, are_locals, are_numbered, returns_unit}
-use Rattle.scalar_form.specs.Kinds.{kind_of}
 use Rattle.scalar_form.specs.Look.{block_of, local_kind}
 use Rattle.scalar_form.specs.Size.{size_of}
-use Rattle.scalar_form.specs.Typing.{agree, are_blocks, are_statements, is_block, is_statement, is_terminator, is_there}
+use Rattle.scalar_form.specs.Typing.{are_blocks, are_statements, is_block, is_terminator, is_there}
 use Rattle.scalar_form.proofs.OperandLaws.{and_left, and_right}
 
 -- the parts of a function of the form, in order
@@ -42,9 +39,10 @@ parts_of f h =
 pub found_block : (f : Function) (test : Block → Bool) (bs : List Block) (b : Block) → are_blocks f bs ≡ true → find test bs ≡ Some b → is_block f b ≡ true
 found_block f test [] b each e = absurd (none-some b e)
 found_block f test (x ∷ xs) b each e =
-    elim (test x) as (λ v. cond v (Some x) (find test xs) ≡ Some b → is_block f b ≡ true)
-    [ true ↦ λ h. subst (λ y. is_block f y ≡ true) (same_Some x b h) (and_left (is_block f x) (are_blocks f xs) each)
-    | false ↦ λ h. found_block f test xs b (and_right (is_block f x) (are_blocks f xs) each) h ] e
+    elim (test x) as (λ v. cond v (Some x) (find test xs) ≡ Some b → is_block f b ≡ true) [
+      | true ↦ λ h. subst (λ y. is_block f y ≡ true) (same_Some x b h) (and_left (is_block f x) (are_blocks f xs) each)
+      | false ↦ λ h. found_block f test xs b (and_right (is_block f x) (are_blocks f xs) each) h
+    ] e
 
 -- and has the number that was looked for
 pub found_number : (bs : List Block) (n : ℕ) (b : Block) → find (λ x. x.id.0 == n) bs ≡ Some b → b.id.0 ≡ n

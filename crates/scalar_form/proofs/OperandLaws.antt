@@ -1,5 +1,5 @@
 -- What the tests of operands say.
-use Rattle.std.proofs.Common.{◌≡◌, ◌↔◌, ℕ, ◌^◌, ◌<◌, ◌≤◌, ◌&&◌, ◌==◌, Bool, true, false, IsTrue, cond, arith, subst, sym, ap, ◌∙◌, refl}
+use Rattle.std.proofs.Common.{◌≡◌, ◌↔◌, ◌^◌, ◌&&◌, ◌==◌, Bool, true, false, IsTrue, cond, subst, sym, refl}
 use Rattle.std.specs.Prelude.{nat_lt, nat_le}
 use Rattle.std.proofs.lemmas.Bool.{eqb-true, ltb-true, lt-ltb, leb-true, le-leb}
 use Rattle.word_bits.specs.declared.word.Word.{Word}

@@ -1,5 +1,5 @@
 -- Lists that pieces are appended to, one after another.
-use Rattle.std.proofs.Common.{◌≡◌, List, [], ◌∷◌, ◌++◌, append_assoc, ◌∙◌, ap}
+use Rattle.std.proofs.Common.{◌≡◌, List, ◌++◌, append_assoc, ◌∙◌, ap}
 
 pub appended_twice : {A : Type 0} (a b c xs ys : List A) → b ≡ a ++ xs → c ≡ b ++ ys → c ≡ a ++ (xs ++ ys)
 appended_twice a b c xs ys p q = q ∙ ap (λ l. l ++ ys) p ∙ append_assoc a xs ys

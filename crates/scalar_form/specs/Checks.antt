@@ -3,7 +3,6 @@ use Rattle.std.specs.Prelude.{ℕ, zero, suc, ◌+◌, Bool, true, false, ◌||�
 use Rattle.vk_core.specs.declared.ids.BlockId.{BlockId}
 use Rattle.vk_core.specs.declared.check.CheckClass.{CheckClass}
 use Rattle.vk_core.specs.declared.check.CheckClass.TheVariants as class
-use Rattle.mir_ir.specs.declared.tree.BinaryOp.{BinaryOp}
 use Rattle.mir_ir.specs.declared.tree.BinaryOp.TheVariants as op
 use Rattle.mir_ir.specs.declared.tree.Constant.TheVariants as constant
 use Rattle.mir_ir.specs.declared.tree.Operand.{Operand}
@@ -20,7 +19,6 @@ use Rattle.scalar_form.specs.declared.builtins.Builtin.{Builtin}
 use Rattle.scalar_form.specs.declared.builtins.Builtin.TheVariants as builtin
 use Rattle.scalar_form.specs.Builtins.{builtin_of}
 use Rattle.scalar_form.specs.Look.{block_of, blocks_end}
-use Rattle.scalar_form.specs.declared.checks.Breach.{Breach}
 use Rattle.scalar_form.specs.declared.checks.Check.{Check}
 
 abbrev pub check_at : BlockId → ℕ → CheckClass → List ℕ → Check

@@ -1,5 +1,5 @@
 -- Which functions are of the scalar form.
-use Rattle.std.specs.Prelude.{ℕ, Bool, true, false, ◌&&◌, not, nat_le, nat_lt, ◌==◌, List, [], ◌∷◌, Option, Some, None}
+use Rattle.std.specs.Prelude.{Bool, true, ◌&&◌, not, nat_le, nat_lt, ◌==◌, List, [], ◌∷◌, Option, Some, None}
 use Rattle.std.specs.List.{list_any}
 use Rattle.mir_ir.specs.declared.tree.Local.{Local}
 use Rattle.mir_ir.specs.declared.tree.Block.{Block}

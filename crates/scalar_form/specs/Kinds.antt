@@ -1,5 +1,5 @@
 -- What a local of a scalar type holds: a word of as many bits as the type has, or no bytes at all.
-use Rattle.std.specs.Prelude.{ℕ, ◌^◌, Bool, true, false, not, ◌&&◌, ◌||◌, ◌==◌, nat_lt, nat_le, [], ◌∷◌, Option, Some, None}
+use Rattle.std.specs.Prelude.{ℕ, ◌^◌, Bool, true, false, ◌&&◌, ◌||◌, ◌==◌, nat_lt, nat_le, [], Option, Some, None}
 use Rattle.word_bits.specs.declared.word.Word.{Word}
 use Rattle.mir_ir.specs.declared.types.IntTy.{IntTy}
 use Rattle.mir_ir.specs.declared.types.IntTy.TheVariants as int

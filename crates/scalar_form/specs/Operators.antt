@@ -1,7 +1,7 @@
 -- The operators and casts of MIR on words: sums, differences and products wrap, the amount of a shift is taken modulo
 -- the width, and a quotient that there is none of is the fault `division`. An operand that is no word, or two of different
 -- widths where they must be equal, would be the fault `invalid`; typing leaves none of these.
-use Rattle.std.specs.Prelude.{ℕ, Bool, true, false, not, ◌&&◌, ◌==◌, if◌then◌else◌, Option, Some, None, Result, Ok, Err}
+use Rattle.std.specs.Prelude.{Bool, true, false, not, ◌&&◌, ◌==◌, if◌then◌else◌, Option, Some, None, Result, Ok, Err}
 use Rattle.word_bits.specs.declared.word.Word.{Word}
 use Rattle.word_bits.specs.Words.{added, subtracted, multiplied, negated, complement, both_bits, either_bit, different_bits, is_lawful, quotient, remainder, shifted_left, shifted_right, is_less, recast}
 use Rattle.vk_core.specs.declared.check.CheckClass.{CheckClass}

@@ -1,11 +1,9 @@
 -- Which statements and terminators are of the scalar form: on scalars, well typed, with places that are locals.
-use Rattle.std.specs.Prelude.{ℕ, Bool, true, false, ◌&&◌, ◌||◌, not, nat_lt, nat_le, ◌==◌, if◌then◌else◌, List, [], ◌∷◌, Option, Some, None, length}
-use Rattle.std.specs.List.{list_any, list_all}
+use Rattle.std.specs.Prelude.{ℕ, Bool, true, false, ◌&&◌, not, nat_lt, ◌==◌, if◌then◌else◌, List, [], ◌∷◌, Option, Some, None, length}
+use Rattle.std.specs.List.{list_any}
 use Rattle.vk_core.specs.declared.ids.BlockId.{BlockId}
-use Rattle.word_bits.specs.declared.word.Word.{Word}
 use Rattle.mir_ir.specs.declared.places.PlaceExpr.{PlaceExpr}
 use Rattle.mir_ir.specs.declared.places.Projection.{Projection}
-use Rattle.mir_ir.specs.declared.types.IntTy.{IntTy}
 use Rattle.mir_ir.specs.declared.tree.Arm.{Arm}
 use Rattle.mir_ir.specs.declared.tree.BinaryOp.{BinaryOp}
 use Rattle.mir_ir.specs.declared.tree.BinaryOp.TheVariants as op

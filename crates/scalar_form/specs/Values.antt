@@ -1,9 +1,8 @@
 -- What operands and rvalues give, where the locals hold these words or nothing.
-use Rattle.std.specs.Prelude.{ℕ, Bool, false, List, [], ◌∷◌, Option, Some, None, Result, Ok, Err, slice_index_or}
+use Rattle.std.specs.Prelude.{ℕ, Bool, false, List, Option, Some, None, Result, Ok, Err, slice_index_or}
 use Rattle.word_bits.specs.declared.word.Word.{Word}
 use Rattle.vk_core.specs.declared.check.CheckClass.{CheckClass}
 use Rattle.vk_core.specs.declared.check.CheckClass.TheVariants as class
-use Rattle.mir_ir.specs.declared.places.PlaceExpr.{PlaceExpr}
 use Rattle.mir_ir.specs.declared.tree.Constant.{Constant}
 use Rattle.mir_ir.specs.declared.tree.Constant.TheVariants as constant
 use Rattle.mir_ir.specs.declared.tree.Operand.{Operand}
@@ -13,7 +12,7 @@ use Rattle.mir_ir.specs.declared.tree.Rvalue.TheVariants as rvalue
 use Rattle.mir_ir.specs.declared.tree.Function.{Function}
 use Rattle.scalar_form.specs.declared.kinds.ValueKind.{ValueKind}
 use Rattle.scalar_form.specs.declared.kinds.ValueKind.TheVariants as kind
-use Rattle.scalar_form.specs.Kinds.{kind_of, is_signed_kind, has_bytes}
+use Rattle.scalar_form.specs.Kinds.{kind_of, is_signed_kind}
 use Rattle.scalar_form.specs.Look.{local_kind}
 use Rattle.scalar_form.specs.Operators.{truth, binary_value, not_value, neg_value, cast_value}
 

@@ -5,7 +5,6 @@ ghost use Rattle.scalar_form.specs.Form.{is_scalar};
 use crate::builtins::{Builtin, builtin_of};
 use crate::look::{block_of, blocks_end};
 use mir_ir::{BinaryOp, Block, Constant, Function, Operand, Rvalue, Statement, Terminator};
-
 use std::alloc::Global;
 use vk_core::{BlockId, CheckClass, Name, NoMemory};
 
@@ -68,9 +67,30 @@ fn push_memory(
 ) -> Result<(), NoMemory>
     ensures { OnOk result (checks.new.items ≡ checks.old.items ++ memory_checks block index) }
 {
-    push_class(alloc, checks, block, index, CheckClass::Pointer, b"memory access")?;
-    push_class(alloc, checks, block, index, CheckClass::Uninit, b"uninitialised byte")?;
-    push_class(alloc, checks, block, index, CheckClass::Invalid, b"invalid value")?;
+    push_class(
+        alloc,
+        checks,
+        block,
+        index,
+        CheckClass::Pointer,
+        b"memory access",
+    )?;
+    push_class(
+        alloc,
+        checks,
+        block,
+        index,
+        CheckClass::Uninit,
+        b"uninitialised byte",
+    )?;
+    push_class(
+        alloc,
+        checks,
+        block,
+        index,
+        CheckClass::Invalid,
+        b"invalid value",
+    )?;
     Ok(())
 }
 
@@ -96,7 +116,14 @@ fn push_division(
     ensures { OnOk result (checks.new.items ≡ checks.old.items ++ division_checks block index is_division) }
 {
     if is_division {
-        push_class(alloc, checks, block, index, CheckClass::Division, b"division")?;
+        push_class(
+            alloc,
+            checks,
+            block,
+            index,
+            CheckClass::Division,
+            b"division",
+        )?;
     }
     Ok(())
 }
@@ -143,7 +170,14 @@ fn push_return(
 {
     match next {
         Some(_) => Ok(()),
-        None => push_class(alloc, checks, block, index, CheckClass::Unreachable, b"unreachable code"),
+        None => push_class(
+            alloc,
+            checks,
+            block,
+            index,
+            CheckClass::Unreachable,
+            b"unreachable code",
+        ),
     }
 }
 
@@ -155,7 +189,14 @@ fn push_unwind(
 ) -> Result<(), NoMemory>
     ensures { OnOk result (checks.new.items ≡ checks.old.items ++ unwind_checks block index) }
 {
-    push_class(alloc, checks, block, index, CheckClass::Unwind, b"unwinding assertion")?;
+    push_class(
+        alloc,
+        checks,
+        block,
+        index,
+        CheckClass::Unwind,
+        b"unwinding assertion",
+    )?;
     Ok(())
 }
 

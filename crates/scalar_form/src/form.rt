@@ -41,9 +41,7 @@ fn are_numbered(blocks: &[Block]) -> bool
     match blocks {
         [] => true,
         [block, rest @ ..] => {
-            block.id.0 < 4096
-                && !has_block(rest, block.id)
-                && are_numbered(rest)
+            block.id.0 < 4096 && !has_block(rest, block.id) && are_numbered(rest)
         }
     }
 }

@@ -36,7 +36,6 @@ pub enum Step {
     Stuck,
 }
 
-
 /// Makes the next step of a run.
 #[tactic(auto, unfolding(crate::specs::Run::step))]
 pub fn take_step(function: &Function, state: &mut State) -> Step
@@ -169,7 +168,11 @@ fn target_of(arms: &[Arm], otherwise: BlockId, number: u128) -> BlockId
 fn is_expected(expected: bool, word: Word) -> bool
     ensures { result ≡ is_expected expected word }
 {
-    if expected { word.value != 0 } else { word.value == 0 }
+    if expected {
+        word.value != 0
+    } else {
+        word.value == 0
+    }
 }
 
 /// Goes on where the condition is as expected, and else is a fault.

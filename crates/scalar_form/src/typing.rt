@@ -119,12 +119,8 @@ fn binary_kind(op: BinaryOp, a: Option<ValueKind>, b: Option<ValueKind>) -> Opti
         }
         BinaryOp::BitXor | BinaryOp::BitAnd | BinaryOp::BitOr => bits_kind(a, b),
         BinaryOp::Shl | BinaryOp::Shr => shift_kind(a, b),
-        BinaryOp::Eq
-        | BinaryOp::Lt
-        | BinaryOp::Le
-        | BinaryOp::Ne
-        | BinaryOp::Ge
-        | BinaryOp::Gt => order_kind(a, b),
+        BinaryOp::Eq | BinaryOp::Lt | BinaryOp::Le | BinaryOp::Ne | BinaryOp::Ge | BinaryOp::Gt =>
+            order_kind(a, b),
         BinaryOp::Offset
         | BinaryOp::AddWithOverflow
         | BinaryOp::SubWithOverflow
@@ -278,8 +274,7 @@ fn are_arms(function: &Function, from: u32, width: u32, arms: &[Arm]) -> bool
             is_word(Word {
                 width,
                 value: arm.number,
-            })
-                && is_target(function, from, arm.target)
+            }) && is_target(function, from, arm.target)
                 && !has_number(rest, arm.number)
                 && are_arms(function, from, width, rest)
         }
@@ -298,8 +293,7 @@ fn is_switch(
     match switch_width(kind) {
         None => false,
         Some(width) => {
-            are_arms(function, from, width, arms)
-                && is_target(function, from, otherwise)
+            are_arms(function, from, width, arms) && is_target(function, from, otherwise)
         }
     }
 }

@@ -23,7 +23,11 @@ fn held_value(held: Option<Word>) -> Result<Word, CheckClass>
     }
 }
 
-fn read_local(function: &Function, values: &[Option<Word>], local: LocalId) -> Result<Word, CheckClass>
+fn read_local(
+    function: &Function,
+    values: &[Option<Word>],
+    local: LocalId,
+) -> Result<Word, CheckClass>
     ensures { result ≡ read_local function.now values.now local.0 }
 {
     match local_kind(function, local) {
