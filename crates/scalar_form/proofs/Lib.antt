@@ -1,0 +1,4 @@
+mod Examples
+pub mod FormLaws
+pub mod OperandLaws
+pub mod Pushes

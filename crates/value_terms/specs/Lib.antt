@@ -1,0 +1,5 @@
+pub mod Made
+pub mod Operators
+pub mod Reads
+pub mod Rvalues
+pub mod Slots
