@@ -39,4 +39,3 @@ one_step false c e = inr e
 -- the classes of a set, one by one
 pub one_of : (x n : ℕ) (set : List ℕ) → has (x ∷ set) n ≡ true → (has (x ∷ []) n ≡ true) ⊎ (has set n ≡ true)
 one_of x n set h = one_step (x == n) (has set n) h
-
