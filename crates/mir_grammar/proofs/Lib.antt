@@ -8,4 +8,5 @@ pub mod ValueFork
 pub mod BlockReady
 pub mod Lines
 pub mod FunctionReady
+pub mod OneReading
 mod Examples

@@ -6,7 +6,7 @@
 --   block    := label : { statement* terminator }
 --   cleanup  := label ( cleanup ) : { statement* (terminator | resume ; | terminate ( word ) ;) }
 -- A parameter is not _0.
-use Rattle.std.specs.Prelude.{ℕ, zero, suc, Bool, true, false, List, [], ◌∷◌, ◌++◌, length, ◌+◌}
+use Rattle.std.specs.Prelude.{◌≡◌, ℕ, zero, suc, Bool, true, false, List, [], ◌∷◌, ◌++◌, length, ◌+◌}
 use Rattle.grammar_words.specs.Grammar.{Part, Then, Made, Either, Each, Never, At}
 use Rattle.grammar_words.specs.Reading.{Outcome, Reader, joined, made, pick, many, until, guard, deep}
 use Rattle.grammar_words.specs.Classes.{inside, Tok, tok, Past, past, Ended, ended, Perhaps, perhaps, Perhaps_token, Listed, listed}
@@ -212,3 +212,7 @@ EachPathIsRight = (d : ℕ) (ts : List Lexeme) → IsRight PathText (λ e x y. F
 
 abbrev pub EachPlaceIsRight : Type 0
 EachPlaceIsRight = (d : ℕ) (ts : List Lexeme) → IsRight PlaceText (λ e x y. PlaceLevel (At (inside class_of place_firsts) x y) (TypeLevel (TypeHole x y) (suc e) AnyType) (suc e)) d ts (place_answer d ts)
+
+-- no text means two lists of functions, whatever the depths of nesting
+abbrev pub HasOneReading : Type 0
+HasOneReading = (d e : ℕ) (ts : List Lexeme) (a b : List RawFunction) → Text d ts a [] → Text e ts b [] → a ≡ b
