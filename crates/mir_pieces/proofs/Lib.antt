@@ -1,0 +1,3 @@
+pub mod Boxing
+pub mod Classing
+pub mod Tupling

@@ -1,0 +1,4 @@
+pub mod Boxes
+pub mod Seen
+pub mod Views
+pub mod Wants
