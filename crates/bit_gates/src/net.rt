@@ -6,7 +6,7 @@ ghost use Rattle.bit_gates.specs.Made.{IsMade, Extends, IsConstant, IsInputBit};
 
 use crate::fold::{Folded, fold_and, fold_choose, fold_or, fold_xor};
 use crate::gate::{Gate, negation, signed};
-use crate::table::{TRIES, Table};
+use crate::table::{Spot, TRIES, Table};
 use std::alloc::Global;
 use std::marker::Model;
 use vk_core::NoMemory;
@@ -117,11 +117,11 @@ impl Net {
     }
 
     /// The literal of an equal gate that is there.
-    fn find(&self, gate: Gate) -> Option<u64>
+    fn find(&self, gate: Gate, spot: Spot) -> Option<u64>
         ensures { IfSome result (λ literal. IsMade self.now self.now literal (λ v. gate_value v gate)) }
     {
         for step in 0..TRIES {
-            let at = self.table.candidate(&gate, step)?;
+            let at = self.table.candidate(spot, step)?;
             if let Some(literal) = self.literal_at(at, gate) {
                 return Some(literal);
             }
@@ -129,16 +129,13 @@ impl Net {
         None
     }
 
-    /// Remembers the last gate in the table, which first grows if it is small.
-    fn note_last(&mut self, gate: Gate) -> Result<(), NoMemory>
+    /// Remembers the last gate in the table.
+    fn note_last(&mut self, spot: Spot) -> Result<(), NoMemory>
         ensures { self.new ≡ self.old }
     {
         let count = self.gates.len();
-        if self.table.is_small_for(count) {
-            let alloc = *self.gates.allocator();
-            self.table = Table::with_gates(alloc, self.gates.as_slice(), 2 * count)?;
-        } else if count > 0 {
-            self.table.note(&gate, count - 1);
+        if count > 0 {
+            self.table.note(spot, count - 1)?;
         }
         Ok(())
     }
@@ -148,11 +145,12 @@ impl Net {
         requires { IsGateOf (size self.old) gate }
         ensures { IfOk result (λ literal. IsMade self.old self.new literal (λ v. gate_value v gate)) }
     {
-        if let Some(literal) = self.find(gate) {
+        let spot = Spot::of(&gate);
+        if let Some(literal) = self.find(gate, spot) {
             return Ok(literal);
         }
         let literal = self.push(gate)?;
-        self.note_last(gate)?;
+        self.note_last(spot)?;
         Ok(literal)
     }
 
