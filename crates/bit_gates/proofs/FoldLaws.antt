@@ -1,14 +1,13 @@
 -- Why folded gates have the values of the gates that were wanted.
-use Rattle.std.proofs.Common.{◌≡◌, ℕ, ◌+◌, ◌-◌, ◌*◌, ◌/◌, ◌%◌, ◌<◌, ◌≤◌, Bool, true, false, not, ◌&&◌, ◌||◌, cond, eqb, sym, ap, ◌∙◌, refl, arith, subst, min, max, inl, inr}
+use Rattle.std.proofs.Common.{◌≡◌, ℕ, ◌-◌, ◌*◌, ◌%◌, ◌<◌, Bool, true, false, not, ◌&&◌, ◌||◌, cond, eqb, sym, ap, ◌∙◌, refl, arith, subst, min, max, inl, inr}
 use mathlib.Core.Bool.{beq}
 use Rattle.std.proofs.lemmas.Bool.{cases_lt}
-use Rattle.bit_gates.specs.declared.gate.Gate.{Gate}
 use Rattle.bit_gates.specs.declared.fold.Folded.{Folded}
 use Rattle.bit_gates.specs.declared.fold.Folded.TheVariants.{Known, Fresh}
-use Rattle.bit_gates.specs.declared.gate.Gate.TheVariants.{True, And, Xor, Choose}
+use Rattle.bit_gates.specs.declared.gate.Gate.TheVariants.{Xor, Choose}
 use Rattle.region_pool.specs.Literals.{literal_value, negation}
-use Rattle.bit_gates.specs.Values.{signed, differ, gate_value, IsGateOf}
-use Rattle.bit_gates.specs.Folding.{IsFolding, IsTurned, IsFoldedOf, folded_value}
+use Rattle.bit_gates.specs.Values.{signed, differ}
+use Rattle.bit_gates.specs.Folding.{IsFolding, IsTurned}
 use Rattle.bit_gates.proofs.LiteralLaws.{literal_value_negation, negation_inside, literal_value_signed, signed_inside, literal_value_positive, not_not}
 
 pub and_other : (x y : Bool) → y ≡ not x → false ≡ (x && y)

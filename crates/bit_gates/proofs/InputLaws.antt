@@ -1,12 +1,12 @@
 -- The literals of inputs and constants.
-use Rattle.std.proofs.Common.{◌≡◌, ℕ, ◌+◌, ◌-◌, ◌*◌, ◌/◌, ◌%◌, ◌^◌, ◌<◌, ◌≤◌, Bool, true, false, eqb, List, [], ◌∷◌, ◌++◌, length, sym, ap, ◌∙◌, refl, arith, subst, inl, inr, length-append, Some, slice_get}
+use Rattle.std.proofs.Common.{◌≡◌, ℕ, ◌+◌, ◌*◌, ◌/◌, ◌%◌, ◌^◌, ◌<◌, Bool, eqb, List, [], ◌∷◌, ◌++◌, sym, ap, ◌∙◌, refl, arith, subst, inl, inr, length-append, Some, slice_get}
 use Rattle.std.proofs.lemmas.Bool.{cases_eq, eq-eqb, ne_eqb}
 use Rattle.std.proofs.lemmas.Nat.{mod-pow-add}
 use Rattle.bit_gates.specs.declared.gate.Gate.{Gate}
 use Rattle.bit_gates.specs.declared.gate.Gate.TheVariants.{True}
 use Rattle.bit_gates.specs.Values.{valued, AreInOrder}
-use Rattle.bit_gates.specs.Circuit.{Circuit, size, value}
-use Rattle.bit_gates.specs.Made.{IsConstant, IsMade, IsWordMade, IsInputBit, IsInputWord, AreBitsOf, AreIn, number, bit}
+use Rattle.bit_gates.specs.Circuit.{Circuit, value}
+use Rattle.bit_gates.specs.Made.{IsConstant, IsMade, IsWordMade, IsInputBit, IsInputWord, bit}
 use Rattle.bit_gates.proofs.ValueLaws.{valued_below, literal_value-even}
 use Rattle.bit_gates.proofs.MadeLaws.{extends_itself}
 use Rattle.bit_gates.proofs.NumberLaws.{number_nil, number_push}

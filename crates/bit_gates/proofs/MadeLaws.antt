@@ -1,16 +1,16 @@
 -- Circuits that grow.
-use Rattle.std.proofs.Common.{◌≡◌, ℕ, ◌+◌, ◌*◌, ◌/◌, ◌%◌, ◌<◌, ◌≤◌, Bool, true, false, not, ◌&&◌, cond, eqb, List, [], ◌∷◌, ◌++◌, length, Some, None, slice_get, sym, ap, ◌∙◌, refl, arith, subst, zero, suc, add-zero, length-append, get_or}
+use Rattle.std.proofs.Common.{◌≡◌, ℕ, ◌+◌, ◌*◌, ◌<◌, Bool, true, false, not, List, [], ◌∷◌, ◌++◌, length, Some, slice_get, sym, ap, ◌∙◌, refl, arith, subst, zero, suc, length-append, get_or}
 use Rattle.bit_gates.specs.declared.gate.Gate.{Gate}
-use Rattle.bit_gates.specs.declared.gate.Gate.TheVariants.{True, And, Xor, Choose}
-use Rattle.region_pool.specs.Literals.{literal_value, negation}
-use Rattle.bit_gates.specs.Values.{signed, differ, gate_value, with_value, valued, IsGateOf, AreInOrder}
+use Rattle.bit_gates.specs.declared.gate.Gate.TheVariants.{True}
+use Rattle.region_pool.specs.Literals.{literal_value}
+use Rattle.bit_gates.specs.Values.{signed, differ, gate_value, valued, IsGateOf, AreInOrder}
 use Rattle.bit_gates.specs.declared.fold.Folded.{Folded}
 use Rattle.bit_gates.specs.declared.fold.Folded.TheVariants.{Known, Fresh}
 use Rattle.bit_gates.specs.Folding.{IsFolding, IsFoldedOf, folded_value}
 use Rattle.bit_gates.specs.Circuit.{Circuit, size, value}
-use Rattle.bit_gates.specs.Made.{Extends, IsMade, IsConstant, IsWordMade, AreIn, number, bit}
+use Rattle.bit_gates.specs.Made.{Extends, IsMade, IsConstant}
 use Rattle.bit_gates.proofs.LiteralLaws.{literal_value_signed, signed_inside}
-use Rattle.bit_gates.proofs.ValueLaws.{literal_agrees, gate_agrees, with_value-other, with_value-same, valued-push, valued_at, literal_value-even, literal_value-odd}
+use Rattle.bit_gates.proofs.ValueLaws.{literal_agrees, with_value-other, with_value-same, valued-push, valued_at, literal_value-even}
 
 pub AreInOrder-push : (at : ℕ) (gates : List Gate) (gate : Gate) → AreInOrder at gates → IsGateOf (at + length gates) gate → AreInOrder at (gates ++ gate ∷ [])
 unfolding AreInOrder

@@ -1,16 +1,15 @@
 -- The numbers that lists of literals write.
-use Rattle.std.proofs.Common.{◌≡◌, ℕ, ◌+◌, ◌-◌, ◌*◌, ◌/◌, ◌%◌, ◌^◌, ◌<◌, ◌≤◌, Bool, true, false, not, cond, List, [], ◌∷◌, ◌++◌, length, take, drop, get_or, sym, ap, ◌∙◌, refl, arith, subst, zero, suc, add-zero, length-append, replicate}
+use Rattle.std.proofs.Common.{◌≡◌, ℕ, ◌+◌, ◌-◌, ◌*◌, ◌%◌, ◌^◌, ◌<◌, ◌≤◌, Bool, true, false, not, List, [], ◌∷◌, ◌++◌, length, take, drop, get_or, sym, ap, ◌∙◌, refl, arith, subst, zero, suc, replicate}
 use Rattle.std.proofs.Math.Nat.{pow-suc}
-use Rattle.std.specs.List.{All}
 use Rattle.std.specs.Prelude.{map}
 use Rattle.std.proofs.lemmas.Nat.{mod-mul-add}
 use Rattle.region_pool.specs.Literals.{negation}
 use Rattle.bit_gates.proofs.LiteralLaws.{negation_inside}
 use Rattle.bit_gates.proofs.TestLaws.{value_negation}
 use Rattle.std.proofs.lemmas.List.{take_more, take_all}
-use Rattle.std.proofs.lemmas.List.Elements.{All-head, All-tail, All-weaker, All-push, All-get_or, All-map, All-same, All-replicate, All-take, All-drop}
+use Rattle.std.proofs.lemmas.List.Elements.{All-head, All-tail, All-weaker, All-get_or, All-map, All-same, All-replicate, All-take, All-drop}
 use Rattle.bit_gates.specs.Circuit.{Circuit, size, value}
-use Rattle.bit_gates.specs.Made.{Extends, IsMade, IsWordMade, AreIn, number, bit}
+use Rattle.bit_gates.specs.Made.{Extends, AreIn, number, bit}
 
 pub bit_below : (b : Bool) → bit b < 2
 bit_below true = omega arith

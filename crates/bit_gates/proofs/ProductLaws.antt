@@ -1,12 +1,12 @@
 -- Rows of a multiplier and steps of a divider.
-use Rattle.std.proofs.Common.{◌≡◌, ℕ, ◌+◌, ◌-◌, ◌*◌, ◌/◌, ◌%◌, ◌^◌, ◌<◌, ◌≤◌, Bool, true, false, not, ◌||◌, cond, List, [], ◌∷◌, ◌++◌, length, take, drop, replicate, get_or, sym, ap, ◌∙◌, refl, arith, subst, zero, suc, length-append}
-use Rattle.std.proofs.lemmas.Nat.{mul-mod_first, mod-mul-add, pow_pos, div-add-mod'}
+use Rattle.std.proofs.Common.{◌≡◌, ℕ, ◌+◌, ◌-◌, ◌*◌, ◌/◌, ◌%◌, ◌^◌, ◌<◌, ◌≤◌, Bool, true, false, ◌||◌, cond, List, [], ◌∷◌, ◌++◌, length, take, drop, get_or, sym, ap, ◌∙◌, refl, arith, subst, length-append}
+use Rattle.std.proofs.lemmas.Nat.{mul-mod_first, pow_pos, div-add-mod'}
 use Rattle.std.proofs.lemmas.Grind.{pow_more}
 use Rattle.std.proofs.Math.Nat.{mul-add-mod_self_right}
 use Rattle.std.proofs.lemmas.List.{length-take-le, length-drop, take_all}
-use Rattle.std.proofs.lemmas.List.Elements.{All-append, All-take, All-cons, All-head, All-tail}
+use Rattle.std.proofs.lemmas.List.Elements.{All-append, All-take, All-cons}
 use Rattle.bit_gates.specs.Circuit.{Circuit, size, value}
-use Rattle.bit_gates.specs.Made.{Extends, IsConstant, IsMade, IsWordMade, IsSum, IsDifference, IsDivision, IsNextDivision, AreIn, number, bit}
+use Rattle.bit_gates.specs.Made.{IsConstant, IsMade, IsWordMade, IsSum, IsDifference, IsDivision, IsNextDivision, AreIn, number, bit}
 use Rattle.bit_gates.proofs.MadeLaws.{extends_both, extends_itself}
 use Rattle.bit_gates.proofs.NumberLaws.{number_nil, number_cons, number_append, number_below, number_kept, are_in_kept, cut_is, in_same, in_at, bit_below}
 use Rattle.bit_gates.proofs.WordLaws.{in_nil, number_take_next}

@@ -1,5 +1,5 @@
 -- Words that are moved by a power of two places.
-use Rattle.std.proofs.Common.{◌≡◌, ℕ, ◌+◌, ◌-◌, ◌*◌, ◌/◌, ◌%◌, ◌^◌, ◌<◌, ◌≤◌, Bool, true, false, not, cond, List, [], ◌∷◌, ◌++◌, length, take, drop, replicate, get_or, sym, ap, ◌∙◌, refl, arith, subst, zero, suc, min, length-append, inl, inr}
+use Rattle.std.proofs.Common.{◌≡◌, ℕ, ◌+◌, ◌-◌, ◌*◌, ◌/◌, ◌%◌, ◌^◌, ◌<◌, ◌≤◌, Bool, true, false, cond, List, ◌++◌, length, take, drop, replicate, get_or, sym, ap, ◌∙◌, refl, arith, subst, min, length-append, inl, inr}
 use Rattle.std.proofs.Math.Nat.{mul-le-mul_left, mod-eq_of_lt, pow-le-pow_right}
 use Rattle.std.proofs.lemmas.Bool.{cases_lt}
 use Rattle.std.proofs.lemmas.Nat.{pow-add, pow_pos, shr-shr, shr_le, div-mul-add, mul-mod_first}
@@ -7,7 +7,7 @@ use Rattle.std.proofs.lemmas.List.{length-take-le, length-drop, length-replicate
 use Rattle.std.proofs.lemmas.List.Elements.{All-append, All-take, All-drop}
 use Rattle.bit_gates.specs.Circuit.{Circuit, size, value}
 use Rattle.bit_gates.specs.Shifts.{shifted_up, shifted_down}
-use Rattle.bit_gates.specs.Made.{Extends, IsConstant, IsWordMade, AreIn, number, bit}
+use Rattle.bit_gates.specs.Made.{IsConstant, IsWordMade, AreIn, number, bit}
 use Rattle.bit_gates.proofs.MadeLaws.{extends_both, extends_itself}
 use Rattle.bit_gates.proofs.NumberLaws.{number_append, number_below, number_replicate, cut_is, in_copies, in_at, number_zero, number_nil}
 use Rattle.bit_gates.proofs.WordLaws.{number_take_next, number_take_below}

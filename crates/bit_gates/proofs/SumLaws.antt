@@ -1,12 +1,12 @@
 -- Adders.
-use Rattle.std.proofs.Common.{◌≡◌, ℕ, ◌+◌, ◌-◌, ◌*◌, ◌/◌, ◌%◌, ◌^◌, ◌<◌, ◌≤◌, Bool, true, false, not, cond, List, [], ◌∷◌, ◌++◌, length, sym, ap, ◌∙◌, refl, arith, subst, replicate}
+use Rattle.std.proofs.Common.{◌≡◌, ℕ, ◌+◌, ◌-◌, ◌*◌, ◌%◌, ◌^◌, ◌<◌, Bool, true, false, cond, List, length, sym, ap, ◌∙◌, refl, arith, subst, replicate}
 use Rattle.bit_gates.specs.Values.{differ}
 use Rattle.bit_gates.specs.Circuit.{Circuit, size, value}
 use Rattle.std.specs.Prelude.{map}
 use Rattle.std.proofs.lemmas.List.{length-map, length-replicate}
 use Rattle.std.proofs.lemmas.List.Elements.{All-replicate}
 use Rattle.region_pool.specs.Literals.{negation}
-use Rattle.bit_gates.specs.Made.{Extends, IsConstant, IsMade, IsWordMade, IsBitSum, IsSum, IsDifference, bit, number}
+use Rattle.bit_gates.specs.Made.{IsConstant, IsMade, IsWordMade, IsBitSum, IsSum, IsDifference, bit, number}
 use Rattle.bit_gates.proofs.MadeLaws.{extends_both, extends_itself}
 use Rattle.bit_gates.proofs.NumberLaws.{number_negations, number_replicate, number_below, number_zero, cut_is}
 

@@ -1,9 +1,9 @@
 -- The two gates of a bit of a comparison.
-use Rattle.std.proofs.Common.{◌≡◌, ℕ, ◌+◌, ◌*◌, ◌<◌, ◌≤◌, Bool, true, false, not, ◌&&◌, cond, sym, ap, ◌∙◌, refl, arith, subst}
-use Rattle.region_pool.specs.Literals.{literal_value, negation}
+use Rattle.std.proofs.Common.{◌≡◌, ℕ, ◌*◌, ◌<◌, Bool, not, ◌&&◌, cond, ◌∙◌, refl}
+use Rattle.region_pool.specs.Literals.{negation}
 use Rattle.bit_gates.specs.Values.{differ, valued}
 use Rattle.bit_gates.specs.Circuit.{Circuit, size, value}
-use Rattle.bit_gates.specs.Made.{Extends, IsMade}
+use Rattle.bit_gates.specs.Made.{IsMade}
 use Rattle.bit_gates.proofs.LiteralLaws.{literal_value_negation}
 use Rattle.bit_gates.proofs.MadeLaws.{extends_both}
 

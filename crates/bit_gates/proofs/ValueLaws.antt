@@ -1,11 +1,10 @@
 -- What gates compute, and what stays when one is added.
-use Rattle.std.proofs.Common.{◌≡◌, ℕ, ◌+◌, ◌*◌, ◌/◌, ◌%◌, ◌<◌, ◌≤◌, Bool, true, false, not, ◌&&◌, cond, eqb, List, [], ◌∷◌, ◌++◌, length, Some, None, slice_get, sym, ap, ◌∙◌, refl, arith, subst, zero, suc, add-zero}
+use Rattle.std.proofs.Common.{◌≡◌, ℕ, ◌+◌, ◌*◌, ◌/◌, ◌%◌, ◌<◌, Bool, not, cond, eqb, List, [], ◌∷◌, ◌++◌, length, Some, slice_get, sym, ap, ◌∙◌, refl, arith, zero, suc, add-zero}
 use Rattle.std.proofs.lemmas.Bool.{ne_eqb, eq-eqb, cond-true, cond-false}
-use Rattle.std.proofs.lemmas.Nat.{div_below}
 use Rattle.bit_gates.specs.declared.gate.Gate.{Gate}
 use Rattle.bit_gates.specs.declared.gate.Gate.TheVariants.{True, And, Xor, Choose}
-use Rattle.region_pool.specs.Literals.{literal_value, negation}
-use Rattle.bit_gates.specs.Values.{differ, gate_value, with_value, valued, IsGateOf, AreInOrder}
+use Rattle.region_pool.specs.Literals.{literal_value}
+use Rattle.bit_gates.specs.Values.{gate_value, with_value, valued, IsGateOf, AreInOrder}
 
 -- two assignments agree on the variables below a number
 abbrev pub Agree : ℕ → (ℕ → Bool) → (ℕ → Bool) → Type 0

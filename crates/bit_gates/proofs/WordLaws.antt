@@ -1,8 +1,7 @@
 -- Lists of literals that grow by a bit.
-use Rattle.std.proofs.Common.{◌≡◌, ℕ, ◌+◌, ◌-◌, ◌*◌, ◌/◌, ◌%◌, ◌^◌, ◌<◌, ◌≤◌, Bool, true, false, not, cond, List, [], ◌∷◌, ◌++◌, length, take, drop, get_or, sym, ap, ◌∙◌, refl, arith, subst, zero, suc, add-zero, length-append}
-use Rattle.std.specs.List.{All}
+use Rattle.std.proofs.Common.{◌≡◌, ℕ, ◌+◌, ◌*◌, ◌^◌, ◌<◌, ◌≤◌, Bool, List, [], ◌∷◌, ◌++◌, length, take, get_or, sym, ap, ◌∙◌, refl, arith, subst, length-append}
 use Rattle.std.proofs.lemmas.List.{length-take-le, take_all}
-use Rattle.std.proofs.lemmas.List.Elements.{All-nil, All-push, All-weaker}
+use Rattle.std.proofs.lemmas.List.Elements.{All-nil, All-push}
 use Rattle.std.proofs.lemmas.Grind.{pow_more}
 use Rattle.bit_gates.specs.Circuit.{Circuit, size, value}
 use Rattle.bit_gates.specs.Made.{Extends, IsConstant, IsMade, IsWordMade, IsBitSum, IsSum, AreIn, number, bit}

@@ -1,6 +1,5 @@
 -- A gate that may have become simpler before it is made.
 use Rattle.std.specs.Prelude.{◌≡◌, ℕ, Bool, true, not, ◌*◌, ◌<◌}
-use Rattle.bit_gates.specs.declared.gate.Gate.{Gate}
 use Rattle.bit_gates.specs.declared.fold.Folded.{Folded}
 use Rattle.bit_gates.specs.declared.fold.Folded.TheVariants.{Known, Fresh}
 use Rattle.region_pool.specs.Literals.{literal_value}

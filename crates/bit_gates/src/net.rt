@@ -67,6 +67,21 @@ impl Net {
         self.gates.as_slice()
     }
 
+    /// The gates, without the rest of the circuit.
+    pub fn into_gates(self) -> Vec<Gate>
+        ensures gates { result.items ≡ self.gates }
+        ensures first { slice_get self.gates 0 ≡ Some Gate.True }
+        ensures in_order { AreInOrder self.inputs self.gates }
+        ensures few { size self < 2 ^ 60 }
+    {
+        let Net {
+            inputs: _,
+            gates,
+            table: _table,
+        } = self;
+        gates
+    }
+
     /// The literal of the constant.
     pub fn truth(&self) -> u64
         ensures { IsConstant self.now result true }

@@ -1,4 +1,4 @@
-use Rattle.bit_gates.proofs.FoldLaws.{AreParts, xor_same, xor_x_truth, xor_y_truth, xor_fresh}
+use Rattle.bit_gates.proofs.FoldLaws.{xor_same, xor_x_truth, xor_y_truth, xor_fresh}
 use Rattle.bit_gates.proofs.fold.fold_xor.Goals as goal
 
 pub returns-then-x-y : goal.returns-then-x-y

@@ -1,4 +1,4 @@
-use Rattle.std.proofs.Common.{◌≡◌, ℕ, List, [], ◌∷◌, ◌-◌, length, take, drop, get_or, sym, subst, refl, arith}
+use Rattle.std.proofs.Common.{ℕ, List, ◌-◌, length, take, drop, get_or, sym, subst, refl}
 use Rattle.bit_gates.specs.Made.{IsDivision}
 use Rattle.bit_gates.proofs.NumberLaws.{list_parts, list_none, in_at}
 use Rattle.bit_gates.proofs.ProductLaws.{division_none, division_more}

@@ -1,4 +1,4 @@
-use Rattle.std.proofs.Common.{◌≡◌, ◌+◌, ◌*◌, ◌%◌, ◌^◌, ◌<◌, ◌-◌, ℕ, List, [], ◌∷◌, length, take, drop, get_or, sym, subst, refl, arith, rules, cond}
+use Rattle.std.proofs.Common.{◌≡◌, ◌+◌, ◌*◌, ◌%◌, ◌^◌, ◌-◌, ℕ, List, length, take, drop, get_or, sym, subst, refl, arith, rules, cond}
 use Rattle.std.proofs.lemmas.Bool.{eqb-true, eqb-false}
 use Rattle.bit_gates.specs.Made.{IsWordMade, number}
 use Rattle.bit_gates.proofs.NumberLaws.{list_parts, list_none, in_rest, in_take, in_at}

@@ -1,6 +1,6 @@
-use Rattle.std.proofs.Common.{◌≡◌, ◌++◌, List, ℕ, take, drop, ap, sym, ◌∙◌, refl, subst, arith}
+use Rattle.std.proofs.Common.{◌≡◌, ◌++◌, List, ℕ, take, drop, ap, ◌∙◌, refl, subst}
 use Rattle.std.proofs.lemmas.List.{take_rest}
-use Rattle.bit_gates.specs.Made.{IsWordMade, IsSum, number}
+use Rattle.bit_gates.specs.Made.{IsSum}
 use Rattle.bit_gates.proofs.ProductLaws.{row_made}
 use Rattle.bit_gates.proofs.products.add_row.Goals as goal
 

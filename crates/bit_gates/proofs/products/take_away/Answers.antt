@@ -1,4 +1,4 @@
-use Rattle.std.proofs.Common.{◌≡◌, ◌++◌, ◌∷◌, [], ◌-◌, ◌<◌, List, ℕ, Bool, ◌||◌, cond, take, drop, get_or, length, ap, sym, ◌∙◌, refl, subst, arith, vec_len}
+use Rattle.std.proofs.Common.{◌≡◌, ◌∷◌, ◌-◌, ◌<◌, List, ℕ, cond, take, length, ◌∙◌, refl, subst, arith}
 use Rattle.std.proofs.lemmas.List.{get_or_read}
 use Rattle.bit_gates.specs.Made.{IsWordMade, IsDifference, number}
 use Rattle.bit_gates.proofs.ProductLaws.{next_division}

@@ -1,7 +1,7 @@
-use Rattle.std.proofs.Common.{◌≡◌, ◌+◌, ◌-◌, ◌*◌, ◌%◌, ◌≤◌, ◌<◌, ℕ, List, ◌++◌, length, take, drop, replicate, ap, sym, ◌∙◌, refl, arith}
-use Rattle.bit_gates.specs.Circuit.{size, value}
-use Rattle.bit_gates.specs.Shifts.{shifted_up, shifted_down}
-use Rattle.bit_gates.specs.Made.{number, AreIn}
+use Rattle.std.proofs.Common.{◌≡◌, ◌-◌, ◌%◌, ◌≤◌, ℕ, List, ◌++◌, length, take, replicate, ap, sym, ◌∙◌, refl, arith}
+use Rattle.bit_gates.specs.Circuit.{value}
+use Rattle.bit_gates.specs.Shifts.{shifted_up}
+use Rattle.bit_gates.specs.Made.{number}
 use Rattle.bit_gates.proofs.NumberLaws.{in_at_later, in_same}
 use Rattle.bit_gates.proofs.WordLaws.{word_as}
 use Rattle.bit_gates.proofs.ShiftLaws.{step_fits, up_begin, up_more, amount_is, in_moved_up, length_moved_up}

@@ -1,5 +1,5 @@
 use Rattle.std.proofs.Common.{◌∙◌, refl}
-use Rattle.bit_gates.proofs.NumberLaws.{in_negations, in_same, in_copies}
+use Rattle.bit_gates.proofs.NumberLaws.{in_negations, in_same}
 use Rattle.bit_gates.proofs.SumLaws.{negation_made}
 use Rattle.bit_gates.proofs.sums.negate.Goals as goal
 

@@ -1,4 +1,4 @@
-use Rattle.std.proofs.Common.{ℕ, Bool, refl, arith}
+use Rattle.std.proofs.Common.{refl, arith}
 use Rattle.bit_gates.specs.BitOps.{bit_result, word_result}
 use Rattle.bit_gates.proofs.BitOpLaws.{bit_step, bit_zero}
 use Rattle.bit_gates.proofs.NumberLaws.{in_at_later}

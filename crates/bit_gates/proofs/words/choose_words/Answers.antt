@@ -1,5 +1,5 @@
-use Rattle.std.proofs.Common.{◌≡◌, ◌<◌, ◌*◌, ℕ, Bool, true, false, cond, refl, arith}
-use Rattle.bit_gates.specs.Circuit.{size, value}
+use Rattle.std.proofs.Common.{cond, refl, arith}
+use Rattle.bit_gates.specs.Circuit.{value}
 use Rattle.bit_gates.proofs.BitOpLaws.{choice_step, choice_zero}
 use Rattle.bit_gates.proofs.NumberLaws.{in_at_later}
 use Rattle.bit_gates.proofs.WordLaws.{pair_none, pair_more, pair_whole}

@@ -1,4 +1,4 @@
-use Rattle.std.proofs.Common.{ℕ, Bool, true, false, not, ◌&&◌, cond, eqb, refl, arith}
+use Rattle.std.proofs.Common.{Bool, true, not, ◌&&◌, eqb, refl, arith}
 use Rattle.bit_gates.specs.Values.{differ}
 use Rattle.bit_gates.proofs.BitOpLaws.{equal_step}
 use Rattle.bit_gates.proofs.NumberLaws.{in_at_later}

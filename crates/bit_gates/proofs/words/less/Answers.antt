@@ -1,4 +1,4 @@
-use Rattle.std.proofs.Common.{ℕ, Bool, true, false, not, ◌&&◌, cond, ltb, refl, arith}
+use Rattle.std.proofs.Common.{Bool, false, cond, ltb, refl, arith}
 use Rattle.bit_gates.specs.Values.{differ}
 use Rattle.bit_gates.proofs.BitOpLaws.{less_step}
 use Rattle.bit_gates.proofs.NumberLaws.{in_at_later}

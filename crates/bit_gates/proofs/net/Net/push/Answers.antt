@@ -1,9 +1,7 @@
-use Rattle.std.proofs.Common.{rules, arith, ◌≡◌, ◌+◌, ◌*◌, ◌<◌, ℕ, ◌++◌, ◌∷◌, [], length, cond, length-append, subst, sym, ap, ◌∙◌, List}
-use Rattle.bit_gates.specs.declared.gate.Gate.{Gate}
+use Rattle.std.proofs.Common.{arith, ◌+◌, length, subst, sym}
 use Rattle.bit_gates.specs.declared.gate.Gate.TheVariants.{True}
-use Rattle.bit_gates.specs.Values.{gate_value, IsGateOf, AreInOrder}
+use Rattle.bit_gates.specs.Values.{IsGateOf}
 use Rattle.bit_gates.specs.Circuit.{Circuit, size}
-use Rattle.bit_gates.specs.Made.{IsMade}
 use Rattle.bit_gates.proofs.MadeLaws.{AreInOrder-push, first-push, made-pushed}
 use Rattle.bit_gates.proofs.net.Net.push.Goals as goal
 
