@@ -153,10 +153,12 @@ pub fn blast(alloc: Global, terms: &Terms, roots: &[TermId]) -> Result<Gates, No
     let mut net = Net::new(alloc, bits.len())?;
     let table = blast_terms(alloc, &mut net, terms, places.as_slice(), marks.as_slice())?;
     let words = root_words(alloc, &table, roots)?;
+    let count = net.inputs();
+    let whole = net.into_gates();
     let Trimmed {
         gates,
         roots: literals,
-    } = trim(alloc, net.inputs(), net.gates(), words.as_slice())?;
+    } = trim(alloc, count, whole, words.as_slice())?;
     Ok(Gates {
         inputs: bits,
         gates,

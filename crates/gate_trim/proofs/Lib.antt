@@ -1,2 +1,3 @@
 pub mod MarkLaws
 pub mod MoveLaws
+pub mod FrontLaws

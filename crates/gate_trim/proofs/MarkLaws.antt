@@ -203,10 +203,10 @@ reads_earlier inputs gates k order l i r =
     omega arith
 
 -- a list that was lent whole and written back
-pub written_back : (count : ℕ) (old new : List Bool) → length old ≡ count → length new ≡ count → take count (new ++ drop (length new) old) ≡ new
+pub written_back : {X : Type 0} → (count : ℕ) (old new : List X) → length old ≡ count → length new ≡ count → take count (new ++ drop (length new) old) ≡ new
 written_back count old new lo ln =
     let none : drop (length new) old ≡ [] = drop_all (length new) old (omega arith) in
-    ap (λ (k : List Bool). take count (new ++ k)) none ∙ ap (take count) (append-nil new) ∙ take_all count new (omega arith)
+    ap (λ k. take count (new ++ k)) none ∙ ap (take count) (append-nil new) ∙ take_all count new (omega arith)
 
 -- the marks that a marked gate asks for
 pub wanted_gate : (inputs : ℕ) (gates : List Gate) (roots : ℕ → Bool) (low k : ℕ) (old new : List Bool) → AreInOrder inputs gates → low ≤ length gates → low ≡ k + 1 → length old ≡ length gates → get_or old k false ≡ true → AreMarked old new (λ i. reads (inputs + i) (get_or gates k True)) → AreWanted roots (gate_reads inputs gates) low old → AreWanted roots (gate_reads inputs gates) k new

@@ -1,5 +1,5 @@
 -- Gates that have moved to other variables.
-use Rattle.std.specs.Prelude.{◌≡◌, ◌⊎◌, ℕ, Bool, true, false, List, [], ◌∷◌, ◌++◌, ◌+◌, ◌-◌, ◌*◌, ◌/◌, ◌%◌, ◌<◌, ◌==◌, nat_lt, if◌then◌else◌, length, get_or}
+use Rattle.std.specs.Prelude.{◌≡◌, ◌≢◌, ◌⊎◌, ℕ, Bool, true, false, List, [], ◌∷◌, ◌++◌, ◌+◌, ◌-◌, ◌*◌, ◌/◌, ◌%◌, ◌<◌, ◌≤◌, ◌==◌, nat_lt, if◌then◌else◌, length, get_or}
 use Rattle.std.specs.List.{list_any}
 use Rattle.bit_gates.specs.declared.gate.Gate.{Gate}
 use Rattle.bit_gates.specs.declared.gate.Gate.TheVariants.{True, And, Xor, Choose}
@@ -38,6 +38,11 @@ pub record IsPassed (old new : Circuit) (wanted : Bool) (gate : Gate) (literal :
 abbrev pub IsMovedGate : Circuit → Circuit → List ℕ → Bool → Gate → ℕ → Type 0
 IsMovedGate old new places wanted gate literal =
     ((wanted ≡ true) × IsPushed old new places gate literal) ⊎ IsPassed old new wanted gate literal
+
+-- so many gates stand before those that have not been looked at: the gate behind those that were there, if it is one that reads, and the rest as it was
+pub record IsPutBehind (old new : List Gate) (kept next : ℕ) (gate : Gate) : Type 0 where
+  pub count : (next ≡ kept) ⊎ ((gate ≢ True) × (next ≡ kept + 1))
+  pub rest : (k : ℕ) → next ≤ k → get_or new k True ≡ get_or old k True
 
 -- some marked gate below this number has moved to this variable
 pub record HasOrigin (inputs : ℕ) (marks : List Bool) (count : ℕ) (places : List ℕ) (gate : ℕ) : Type 0 where

@@ -1,10 +1,10 @@
-ghost use Rattle.std.specs.Prelude.{◌≡◌, ◌+◌, ◌*◌, ◌<◌, ℕ, IfOk, All, map, length};
+ghost use Rattle.std.specs.Prelude.{◌≡◌, ◌≢◌, ◌+◌, ◌*◌, ◌<◌, ◌≤◌, ℕ, IfOk, All, map, length, take};
 ghost use Rattle.bit_gates.specs.Values.{IsGateOf, AreInOrder};
 ghost use Rattle.bit_gates.specs.Made.{AreIn};
 ghost use Rattle.gate_trim.specs.Reading.{gate_reads};
 ghost use Rattle.gate_trim.specs.Marks.{AreClosed};
 ghost use Rattle.gate_trim.specs.Trimmed.{circuit, IsCircuit};
-ghost use Rattle.gate_trim.specs.Moves.{moved, moved_gate, IsMovedGate, AreMoved};
+ghost use Rattle.gate_trim.specs.Moves.{moved, moved_gate, IsMovedGate, IsPutBehind, AreMoved};
 
 use bit_gates::{Gate, negation};
 use std::alloc::Global;
@@ -53,63 +53,68 @@ fn moved_gate(places: &[u64], inputs: usize, gate: Gate) -> Gate
 /// No circuit has this many variables.
 const LIMIT: usize = 1 << 60;
 
-/// The literal that stands for the gate among the new ones, where it is made if it is wanted.
+/// The literal that stands for a gate among the first `kept` gates, and how many they are then: where the gate is
+/// wanted it is put behind them.
 fn move_gate(
     inputs: usize,
-    gates: &mut Vec<Gate>,
+    gates: &mut [Gate],
+    kept: usize,
     places: &[u64],
     wanted: bool,
     gate: Gate,
-) -> Result<u64, NoMemory>
-    requires new_gates { IsCircuit (circuit inputs gates.old.items) }
+) -> Result<(u64, usize), NoMemory>
+    requires kept_gates { IsCircuit (circuit inputs (take kept gates.old)) }
+    requires behind { kept ≤ length gates.old }
+    requires room { gate ≢ Gate.True → kept < length gates.old }
     requires reads_inside { IsGateOf (inputs + length places.now) gate }
-    requires places_inside { AreIn (circuit inputs gates.old.items) places.now }
-    ensures { IfOk result (λ literal. IsMovedGate (circuit inputs gates.old.items) (circuit inputs gates.new.items) places.now wanted gate literal) }
+    requires places_inside { AreIn (circuit inputs (take kept gates.old)) places.now }
+    ensures moved { IfOk result (λ r. IsMovedGate (circuit inputs (take kept gates.old)) (circuit inputs (take r.1 gates.new)) places.now wanted gate r.0) }
+    ensures rest { IfOk result (λ r. IsPutBehind gates.old gates.new kept r.1 gate) }
+    ensures long { length gates.new ≡ length gates.old }
 {
     if !wanted {
-        return Ok(2 * inputs as u64);
+        return Ok((2 * inputs as u64, kept));
     }
     if gate == Gate::True {
-        return Ok(2 * inputs as u64);
+        return Ok((2 * inputs as u64, kept));
     }
-    let variable = inputs + gates.len();
+    let variable = inputs + kept;
     if variable + 1 >= LIMIT {
         return Err(NoMemory);
     }
-    gates.push(moved_gate(places, inputs, gate))?;
-    Ok(2 * variable as u64)
+    gates[kept] = moved_gate(places, inputs, gate);
+    Ok((2 * variable as u64, kept + 1))
 }
 
-/// The marked gates, and the literals that stand for all gates among them.
+/// How many gates are kept, and the literals that stand for all gates among them.
 #[derive(Drop)]
 pub struct Remade {
-    pub gates: Vec<Gate>,
+    pub kept: usize,
     pub places: Vec<u64>,
 }
 
-/// The marked gates alone.
+/// Puts the marked gates to the front.
 pub fn move_gates(
     alloc: Global,
     inputs: usize,
-    gates: &[Gate],
+    gates: &mut [Gate],
     marks: &[bool],
 ) -> Result<Remade, NoMemory>
-    requires old_gates { IsCircuit (circuit inputs gates.now) }
-    requires one_each { length marks.now ≡ length gates.now }
-    requires closed { AreClosed (gate_reads inputs gates.now) 0 marks.now }
-    ensures { IfOk result (λ r. AreMoved (circuit inputs gates.now) marks.now (length gates.now) (circuit inputs r.gates.items) r.places.items) }
+    requires old_gates { IsCircuit (circuit inputs gates.old) }
+    requires one_each { length marks.now ≡ length gates.old }
+    requires closed { AreClosed (gate_reads inputs gates.old) 0 marks.now }
+    ensures moved { IfOk result (λ r. AreMoved (circuit inputs gates.old) marks.now (length gates.old) (circuit inputs (take r.kept gates.new)) r.places.items) }
+    ensures long { length gates.new ≡ length gates.old }
 {
-    let mut made = Vec::new(alloc);
-    made.push(Gate::True)?;
+    let mut kept = 1;
     let mut places = Vec::with_capacity(alloc, gates.len())?;
     for k in 0..gates.len() {
-        let literal = move_gate(inputs, &mut made, places.as_slice(), marks[k], gates[k])?;
+        let gate = gates[k];
+        let (literal, count) = move_gate(inputs, gates, kept, places.as_slice(), marks[k], gate)?;
         places.push(literal)?;
+        kept = count;
     }
-    Ok(Remade {
-        gates: made,
-        places,
-    })
+    Ok(Remade { kept, places })
 }
 
 /// The word of the moved literals.

@@ -18,7 +18,7 @@ fn a_circuit_without_what_nobody_reads(rt: HostRuntime) -> Result<(), Fail> {
     word.push(a)?;
     let mut roots = Vec::new(alloc);
     roots.push(word)?;
-    let trimmed = trim(alloc, net.inputs(), net.gates(), roots.as_slice())?;
+    let trimmed = trim(alloc, net.inputs(), net.into_gates(), roots.as_slice())?;
     assert_eq!(rt; trimmed.gates.len(), 3, "the constant and two gates");
     assert_eq!(rt; trimmed.roots.len(), 1);
     assert_eq!(rt; trimmed.roots[0].len(), 2);

@@ -19,21 +19,24 @@ pub struct Trimmed {
 pub fn trim(
     alloc: Global,
     inputs: usize,
-    gates: &[Gate],
+    mut gates: Vec<Gate>,
     roots: &[Vec<u64>],
 ) -> Result<Trimmed, NoMemory>
-    requires gates { IsCircuit (circuit inputs gates.now) }
-    requires roots { All (λ word. AreIn (circuit inputs gates.now) word.items) roots.now }
-    ensures { IfOk result (λ r. IsTrimmed (circuit inputs gates.now) (map (λ word. word.items) roots.now) (circuit inputs r.gates.items) (map (λ word. word.items) r.roots.items)) }
+    requires gates { IsCircuit (circuit inputs gates.items) }
+    requires roots { All (λ word. AreIn (circuit inputs gates.items) word.items) roots.now }
+    ensures { IfOk result (λ r. IsTrimmed (circuit inputs gates.items) (map (λ word. word.items) roots.now) (circuit inputs r.gates.items) (map (λ word. word.items) r.roots.items)) }
 {
-    let marks = wanted_gates(alloc, inputs, gates, roots)?;
-    let Remade {
-        gates: made,
-        places,
-    } = move_gates(alloc, inputs, gates, marks.as_slice())?;
+    let marks = wanted_gates(alloc, inputs, gates.as_slice(), roots)?;
+    let Remade { kept, places } = move_gates(
+        alloc,
+        inputs,
+        gates.as_mut_slice(),
+        marks.as_slice(),
+    )?;
     let words = moved_words(alloc, places.as_slice(), inputs, roots)?;
+    gates.truncate(kept);
     Ok(Trimmed {
-        gates: made,
+        gates,
         roots: words,
     })
 }

@@ -18,7 +18,7 @@ blast_terms-requires-clause-places c =
 
 pub trim-requires-clause-roots : goal.trim-requires-clause-roots
 trim-requires-clause-roots c =
-    subst (λ (k : Circuit). All (λ (w : Vec ℕ Global). AreIn k w.items) c.as_slice-4.result.now) (sym (circuit_seen c.blast_terms.new.net c.inputs.result c.gates.result.now c.inputs.ensures c.gates.ensures.gates))
+    subst (λ (k : Circuit). All (λ (w : Vec ℕ Global). AreIn k w.items) c.as_slice-4.result.now) (sym (circuit_seen c.blast_terms.new.net c.inputs-count.result c.into_gates-whole.result.items c.inputs-count.ensures c.into_gates-whole.ensures.gates))
     (words_seen c.blast_terms.new.net c.as_slice-4.result.now c.in_ok-words.words.items c.as_slice-4.ensures.value
     (words_inside c.blast_terms.new.net c.args.terms.now c.args.roots.now c.as_slice-2.result.now c.in_ok-marks.marks.items c.in_ok-table.table.blocks (map (λ (w : Vec ℕ Global). w.items) c.in_ok-words.words.items) c.in_ok-marks.ensures.one_each c.in_ok-marks.ensures.reached
     (subst (λ (m : List Bool). IsTable c.blast_terms.new.net c.args.terms.now c.as_slice-2.result.now m (length c.args.terms.now) c.in_ok-table.table.blocks) c.as_slice-3.ensures.value c.in_ok-table.ensures.1) c.in_ok-words.ensures c.requires))
@@ -34,5 +34,5 @@ returns c =
     c.in_ok-marks.ensures.one_each c.in_ok-marks.ensures.reached
     (table_seen c.blast_terms.new.net c.args.terms.now c.as_slice-2.result.now c.in_ok-bits.field-0.places.items c.as_slice-3.result.now c.in_ok-marks.marks.items c.in_ok-table.table.blocks places c.as_slice-3.ensures.value c.in_ok-table.ensures.1)
     c.in_ok-words.ensures c.requires
-    (trimmed_seen c.blast_terms.new.net c.inputs.result c.gates.result.now c.in_ok-gates.field-0.gates.items _ _ c.inputs.ensures c.gates.ensures.gates
-    (subst (λ (ws : List (Vec ℕ Global)). IsTrimmed (circuit c.inputs.result c.gates.result.now) (map (λ (w : Vec ℕ Global). w.items) ws) (circuit c.inputs.result c.in_ok-gates.field-0.gates.items) (map (λ (w : Vec ℕ Global). w.items) c.in_ok-gates.field-0.roots.items)) c.as_slice-4.ensures.value c.in_ok-gates.ensures))
+    (trimmed_seen c.blast_terms.new.net c.inputs-count.result c.into_gates-whole.result.items c.in_ok-gates.field-0.gates.items _ _ c.inputs-count.ensures c.into_gates-whole.ensures.gates
+    (subst (λ (ws : List (Vec ℕ Global)). IsTrimmed (circuit c.inputs-count.result c.into_gates-whole.result.items) (map (λ (w : Vec ℕ Global). w.items) ws) (circuit c.inputs-count.result c.in_ok-gates.field-0.gates.items) (map (λ (w : Vec ℕ Global). w.items) c.in_ok-gates.field-0.roots.items)) c.as_slice-4.ensures.value c.in_ok-gates.ensures))
