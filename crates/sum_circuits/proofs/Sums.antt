@@ -1,5 +1,5 @@
 -- Sums of two terms of 64 bits.
-use Rattle.std.proofs.Common.{◌≡◌, ◌+◌, ◌*◌, ◌<◌, ℕ, List, [], ◌∷◌, length, get_or, slice_get, None, vec_len, Vec, Global, sym, ap, ◌∙◌, refl, subst, arith}
+use Rattle.std.proofs.Common.{◌≡◌, ◌+◌, ◌<◌, ℕ, List, [], ◌∷◌, length, get_or, slice_get, None, vec_len, Vec, Global, sym, ap, ◌∙◌, refl, subst, arith}
 use Rattle.std.proofs.lemmas.List.{get_or-map}
 use Rattle.region_pool.specs.Clauses.{AreLiterals}
 use Rattle.bit_gates.specs.declared.gates.Gates.{Gates}
@@ -9,7 +9,7 @@ use Rattle.sym_terms.specs.declared.TermId.{TermId}
 use Rattle.sym_terms.specs.declared.term.Term.{Term}
 use Rattle.sym_terms.specs.declared.term.Term.TheVariants.{Input, Apply}
 use Rattle.sym_terms.specs.declared.term.TermOp.TheVariants.{Add}
-use Rattle.sym_terms.specs.Terms.{width_of, Fits, Keeps, IsInserted, HasOneWidth}
+use Rattle.sym_terms.specs.Terms.{Fits, Keeps, IsInserted}
 use Rattle.sum_circuits.specs.Chain.{IsWide}
 
 pub sum_fits : (terms : List Term) (a b : TermId) → IsWide terms a.0 → IsWide terms b.0 → Fits terms (Apply Add a b)
