@@ -2,11 +2,10 @@ use crate::gate::Gate;
 use std::alloc::Global;
 use vk_core::NoMemory;
 
-/// How many places of the table are tried for a gate.
-pub const TRIES: usize = 8;
+/// How many places of the table are tried for a gate, and how many of them in each of three ranges.
+pub const TRIES: usize = 3 * TRIES_IN_RANGE;
 
-/// How many of them lie near the greatest literal that the gate reads. The others lie near the least.
-const NEAR_TRIES: usize = 4;
+const TRIES_IN_RANGE: usize = 4;
 
 /// How many places more the table has than it needs when it grows.
 const STEP: usize = 1 << 14;
@@ -14,36 +13,43 @@ const STEP: usize = 1 << 14;
 /// Numbers of gates by what the gates read, so that an equal gate is found without a walk. An entry is a
 /// candidate alone: whoever takes it compares the gates. 0 marks a free place.
 ///
-/// A gate stands within about a thousand places of a literal that it reads. So what is looked up for gates that
-/// are made one after another lies together, and no gate has to move when the table grows.
+/// A gate stands within about a thousand places of the greatest literal that it reads. So what is looked up for gates
+/// that are made one after another lies together, and no gate has to move when the table grows. Where many gates read
+/// a few literals, as in a product, those that find no place there stand in a wider range behind the least literal, and
+/// those that find none there in a wider one still.
 #[derive(Drop)]
 pub struct Table {
     places: Vec<u32>,
 }
 
-/// The first places that are tried for a gate.
+/// The first place that is tried for a gate in each range.
 #[derive(Clone, Copy)]
 pub struct Spot {
     near: usize,
     far: usize,
+    wide: usize,
 }
 
 impl Spot {
     pub fn of(gate: &Gate) -> Spot {
-        let offset = mixed(gate) >> 54;
+        let word = mixed(gate);
         let (greatest, least) = extremes(gate);
         Spot {
-            near: greatest.wrapping_add(offset) as usize,
-            far: least.wrapping_add(offset) as usize,
+            near: greatest.wrapping_add(word >> 54) as usize,
+            far: least.wrapping_add(word >> 48) as usize,
+            wide: (word >> 42) as usize,
         }
     }
 
     fn place(self, step: usize) -> usize {
-        if step < NEAR_TRIES {
-            self.near.wrapping_add(step)
+        let first = if step < TRIES_IN_RANGE {
+            self.near
+        } else if step < 2 * TRIES_IN_RANGE {
+            self.far
         } else {
-            self.far.wrapping_add(step)
-        }
+            self.wide
+        };
+        first.wrapping_add(step % TRIES_IN_RANGE)
     }
 }
 
