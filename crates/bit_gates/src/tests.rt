@@ -141,3 +141,18 @@ fn gates_of_a_division(rt: HostRuntime) -> Result<(), Fail> {
     }
     Ok(())
 }
+
+#[test]
+fn gates_of_a_product_made_again(rt: HostRuntime) -> Result<(), Fail> {
+    let alloc = rt.alloc();
+    let mut net = Net::new(alloc, 128)?;
+    let xs = input_word(alloc, &net, 0, 64)?;
+    let ys = input_word(alloc, &net, 64, 64)?;
+    let _first = multiply(alloc, &mut net, xs.as_slice(), ys.as_slice())?;
+    let count = gate_count(&net);
+    let xs = input_word(alloc, &net, 0, 64)?;
+    let ys = input_word(alloc, &net, 64, 64)?;
+    let _second = multiply(alloc, &mut net, xs.as_slice(), ys.as_slice())?;
+    assert_eq!(rt; gate_count(&net), count, "no gate is new");
+    Ok(())
+}
