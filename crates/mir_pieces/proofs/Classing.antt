@@ -6,8 +6,8 @@ use Rattle.mir_ir.specs.declared.types.IntTy.TheVariants as int
 use Rattle.mir_lex.specs.declared.token.TokenKind.{TokenKind}
 use Rattle.mir_lex.specs.declared.token.TokenKind.TheVariants as kind
 use Rattle.mir_lex.specs.Bytes.{value_from, number_within}
-use Rattle.mir_lex.specs.Views.{decimal}
-use Rattle.mir_grammar.specs.Lexemes.{class_of, fits_plus, fits_minus, typed_class, suffix_class, number_value, number_type}
+use Rattle.mir_lex.specs.Views.{decimal, digits_of}
+use Rattle.mir_grammar.specs.Lexemes.{Lexeme, class_of, fits_plus, fits_minus, typed_class, suffix_class, number_value, number_type}
 use Rattle.mir_pieces.specs.Seen.{class_in}
 
 pub class_is : (k : TokenKind) (text : List ℕ) (start : ℕ) → class_in k text ≡ class_of (record { kind = k; text = text; start = start })
@@ -69,6 +69,18 @@ wide_minus int.U32 n h = or_from (n == 0) false (no_zero n h) refl
 wide_minus int.U64 n h = or_from (n == 0) false (no_zero n h) refl
 wide_minus int.U128 n h = or_from (n == 0) false (no_zero n h) refl
 wide_minus int.Usize n h = or_from (n == 0) false (no_zero n h) refl
+
+-- The value of a number's digits.
+
+pub value_found : (l : Lexeme) (digits : List ℕ) (o : Option ℕ) (n : ℕ) → digits ≡ digits_of l.text → o ≡ number_within 10 (2 ^ 128 - 1) digits → o ≡ Some n → n ≡ number_value l
+unfolding number_value
+value_found l digits o n d e s = sym (value_is digits n (2 ^ 128 - 1) (sym e ∙ s)) ∙ ap decimal d
+
+pub value_missing : (l : Lexeme) (digits : List ℕ) (o : Option ℕ) → decimal (digits_of l.text) < 2 ^ 128 → digits ≡ digits_of l.text → o ≡ number_within 10 (2 ^ 128 - 1) digits → o ≡ None → 0 ≡ number_value l
+value_missing l digits o small d e s =
+    let p : 2 ^ 128 - 1 < decimal digits = value_past digits (2 ^ 128 - 1) (sym e ∙ s) in
+    let q : decimal digits ≡ decimal (digits_of l.text) = ap decimal d in
+    absurd (omega arith)
 
 pub wide_class : (digits : List ℕ) (i : IntTy) (o : Option IntTy) → o ≡ Some i → number_within 10 (2 ^ 128 - 1) digits ≡ None → 39 ≡ suffix_class (decimal digits) o
 wide_class digits i o e h =

@@ -1,3 +1,4 @@
 pub mod Boxing
 pub mod Classing
+pub mod Small
 pub mod Tupling
