@@ -1,0 +1,10 @@
+use Rattle.std.proofs.Common.{◌≡◌, length}
+use Rattle.mir_grammar.specs.Places.{both_passed}
+use Rattle.raw_functions.specs.Limits.{functions_passed}
+use Rattle.raw_functions.proofs.limits.functions_passed.Given as goal
+
+abbrev pub invariant-loop-left : goal.invariant-loop-left
+invariant-loop-left l = both_passed l.passed (functions_passed l.left) ≡ functions_passed l.functions
+
+abbrev pub decreases-loop-left : goal.decreases-loop-left
+decreases-loop-left l = length l.left

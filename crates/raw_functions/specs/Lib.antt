@@ -1,0 +1,5 @@
+pub mod Doubles
+pub mod Limits
+pub mod Meant
+pub mod Noted
+pub mod Steps
