@@ -1,3 +1,3 @@
+pub mod Ends
 pub mod Holding
 pub mod LogLines
-pub mod Spans

@@ -1,5 +1,6 @@
 pub mod Blocks
 pub mod Clauses
+pub mod Ends
 pub mod Layout
 pub mod Lines
 pub mod Literals

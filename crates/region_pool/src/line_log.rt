@@ -44,7 +44,7 @@ impl Log {
         ensures ok { OnOk result (self.new ≡ self.old ++ (record { literals = literals.now; hints = hints.now }) ∷ []) }
         ensures err { OnErr result (self.new ≡ self.old) }
     {
-        self.literals.reserve(literals.len() + 1)?;
+        self.literals.reserve_ahead(literals.len() + 1)?;
         self.hints.put(hints)?;
         self.literals.put(literals)?;
         Ok(())

@@ -1,4 +1,4 @@
-ghost use Rattle.std.specs.Prelude.{◌≡◌, ◌+◌, ◌≤◌, ◌<◌, ◌++◌, [], length, take, drop, slice_set, OnOk, OnErr, IsOk};
+ghost use Rattle.std.specs.Prelude.{◌≡◌, ◌+◌, ◌-◌, ◌≤◌, ◌<◌, ◌++◌, [], length, take, drop, slice_set, OnOk, OnErr, IsOk};
 
 use std::alloc::Global;
 use std::marker::Model;
@@ -39,18 +39,17 @@ impl Words {
         Ok(())
     }
 
-    /// Appends a block, and answers where it starts.
+    /// Appends a block, and answers where it ends.
     pub(crate) fn copy_in(&mut self, block: &[u64]) -> usize
         requires { length self.old.words + length block.now ≤ self.old.capacity }
-        ensures start { result ≡ length self.old.words }
+        ensures end { result ≡ length self.old.words + length block.now }
         ensures words { self.new.words ≡ self.old.words ++ block.now }
         ensures capacity { self.old.capacity ≤ self.new.capacity }
     {
-        let start = self.items.len();
         if self.items.extend_from_slice(block).is_err() {
             unreachable!()
         }
-        start
+        self.items.len()
     }
 
     /// Changes the word at a place after a start.
@@ -62,12 +61,13 @@ impl Words {
         self.items[start + at] = word;
     }
 
-    /// Lends so many words from a start on.
-    pub(crate) fn lend(&self, start: usize, count: usize) -> &[u64]
-        requires { start + count ≤ length self.now.words }
-        ensures { result.now ≡ take count (drop start self.now.words) }
+    /// Lends the words from a start to an end.
+    pub(crate) fn lend(&self, start: usize, end: usize) -> &[u64]
+        requires forward { start ≤ end }
+        requires inside { end ≤ length self.now.words }
+        ensures { result.now ≡ take (end - start) (drop start self.now.words) }
     {
-        &self.items[start..start + count]
+        &self.items[start..end]
     }
 
     /// Forgets the words, and keeps their room.
