@@ -1,0 +1,9 @@
+use Rattle.std.proofs.Common.{◌∷◌, []}
+use Rattle.mir_grammar.specs.Lexemes.{class_of}
+use Rattle.mir_grammar.specs.Values.{operand_at}
+use Rattle.value_reader.specs.Levels.{places, types}
+use Rattle.value_reader.proofs.Following.{past_by}
+use Rattle.value_reader.proofs.operands.operand_behind_comma.Goals as goal
+
+pub returns-in_ok-read-in-Ok : goal.returns-in_ok-read-in-Ok
+returns-in_ok-read-in-Ok c = past_by class_of (9 ∷ []) (operand_at c.args.turns (types c.args.turns c.args.depth) (places c.args.turns c.args.depth)) c.args.tokens.now c.in-Ok.rest.now _ _ c.in-Ok.ensures c.in_ok-read-in-Ok.ensures

@@ -1,0 +1,9 @@
+use Rattle.std.proofs.Common.{◌∷◌, []}
+use Rattle.mir_grammar.specs.Lexemes.{class_of}
+use Rattle.value_reader.specs.Levels.{any_type}
+use Rattle.value_reader.proofs.Following.{past_by}
+use Rattle.value_reader.proofs.places.type_behind_colon.Goals as goal
+
+pub returns-in_ok-read-in-Ok : goal.returns-in_ok-read-in-Ok
+unfolding any_type
+returns-in_ok-read-in-Ok c = past_by class_of (11 ∷ []) (any_type c.args.turns c.args.depth) c.args.tokens.now c.in-Ok.rest.now _ _ c.in-Ok.ensures c.in_ok-read-in-Ok.ensures
