@@ -1,16 +1,9 @@
-//! Prints functions as their canonical text: one line for each statement and terminator, as rustc prints MIR.
+//! Prints functions as their canonical text, which reads as these functions again.
 #![tactic(auto)]
 
-mod functions;
-mod lines;
-mod operands;
-mod places;
-mod pushes;
-mod rvalues;
-mod types;
+mod printed;
 
-pub use functions::print;
-pub use types::type_text;
+pub use printed::print;
 
 #[cfg(test)]
 mod tests;

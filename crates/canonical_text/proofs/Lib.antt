@@ -1,0 +1,4 @@
+mod Examples
+pub mod Turns
+pub mod Openings
+pub mod Texts

@@ -1,6 +1,0 @@
-use Rattle.std.proofs.Common.{◌≡◌, ◌++◌, drop}
-use Rattle.mir_print.specs.Functions.{blocks_text}
-use Rattle.mir_print.proofs.functions.push_blocks.Given as goal
-
-abbrev pub invariant-loop-block : goal.invariant-loop-block
-invariant-loop-block l = l.out.items ++ blocks_text (drop l.block-index l.blocks) ≡ l.initial.out.items ++ blocks_text l.blocks

@@ -1,9 +1,0 @@
-use Rattle.std.proofs.Common.{◌≡◌, ◌++◌, ◌≤◌, length, take}
-use Rattle.mir_print.specs.Places.{openings}
-use Rattle.mir_print.proofs.places.push_openings.Given as goal
-
-abbrev pub invariant-loop-at : goal.invariant-loop-at
-invariant-loop-at l = (l.at ≤ length l.steps) × (l.out.items ++ openings (take l.at l.steps) ≡ l.initial.out.items ++ openings l.steps)
-
-abbrev pub decreases-loop-at : goal.decreases-loop-at
-decreases-loop-at l = l.at

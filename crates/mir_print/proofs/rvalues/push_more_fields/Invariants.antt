@@ -1,6 +1,0 @@
-use Rattle.std.proofs.Common.{◌≡◌, ◌++◌, drop}
-use Rattle.mir_print.specs.Rvalues.{more_fields}
-use Rattle.mir_print.proofs.rvalues.push_more_fields.Given as goal
-
-abbrev pub invariant-loop-field : goal.invariant-loop-field
-invariant-loop-field l = l.out.items ++ more_fields (drop l.field-index l.fields) ≡ l.initial.out.items ++ more_fields l.fields

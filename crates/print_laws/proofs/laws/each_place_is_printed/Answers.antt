@@ -1,0 +1,5 @@
+use Rattle.print_laws.proofs.Names.{each_place_is_printed}
+use Rattle.print_laws.proofs.laws.each_place_is_printed.Goals as goal
+
+pub returns : goal.returns
+returns c = each_place_is_printed

@@ -1,0 +1,5 @@
+use Rattle.print_laws.proofs.Parsed.{each_text_reads_again}
+use Rattle.print_laws.proofs.laws.each_text_reads_again.Goals as goal
+
+pub returns : goal.returns
+returns c = each_text_reads_again
