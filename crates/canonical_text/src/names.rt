@@ -6,6 +6,7 @@ ghost use Rattle.mir_lex.specs.Tokens.{opens_impl};
 ghost use Rattle.canonical_text.specs.Names.{colons_before, is_reserved, open_behind, path_written, texts_now};
 
 use crate::pushes::push_text;
+use mir_lex::{is_word_byte, opens_impl};
 use vk_core::{Name, NoMemory};
 
 /// Words that begin a type, a constant, an operand or an operation. They begin a path only before `::`.
@@ -75,33 +76,6 @@ fn is_reserved(word: &[u8]) -> bool
     ensures { result ≡ is_reserved word.now }
 {
     is_among(&RESERVED, word)
-}
-
-fn is_word_byte(byte: u8) -> bool
-    ensures { result ≡ is_word_byte byte }
-{
-    (b'a' <= byte && byte <= b'z' || (b'A' <= byte && byte <= b'Z' || byte == b'_'))
-        || b'0' <= byte && byte <= b'9'
-}
-
-/// Whether the bytes begin with impl and a blank, so that with the `<` before them they begin an impl segment.
-fn opens_impl(bytes: &[u8]) -> bool
-    ensures { result ≡ opens_impl bytes.now }
-{
-    match bytes {
-        [] => false,
-        [_] => false,
-        [_, _] => false,
-        [_, _, _] => false,
-        [_, _, _, _] => false,
-        [a, b, c, d, blank, ..] => {
-            *a == b'i'
-                && *b == b'm'
-                && *c == b'p'
-                && *d == b'l'
-                && (*blank == b' ' || *blank == b'\t')
-        }
-    }
 }
 
 /// How many `<` of an impl segment are open behind a byte, before these bytes.

@@ -38,7 +38,8 @@ pub fn is_word_start(byte: u8) -> bool
     within(b'a', b'z', byte) || within(b'A', b'Z', byte) || byte == b'_'
 }
 
-fn is_word_byte(byte: u8) -> bool
+/// An ASCII letter, a digit or `_`: what a word goes on with.
+pub fn is_word_byte(byte: u8) -> bool
     ensures { result ≡ is_word_byte byte }
 {
     is_word_start(byte) || is_digit(byte)

@@ -200,8 +200,8 @@ fn segment(bytes: &[u8]) -> Result<Found, Fault>
     }
 }
 
-/// `impl` and a blank.
-fn opens_impl(bytes: &[u8]) -> bool
+/// The bytes begin with `impl` and a blank, so that with a `<` before them they begin an impl segment.
+pub fn opens_impl(bytes: &[u8]) -> bool
     ensures { result ≡ opens_impl bytes.now }
 {
     match bytes {

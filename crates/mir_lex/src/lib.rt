@@ -15,8 +15,10 @@ mod seen;
 mod token;
 
 pub use agreement::one_lexing;
+pub use bytes::is_word_byte;
 pub use digits::number_within;
 pub use fault::{FaultKind, LexFault};
+pub use front::opens_impl;
 pub use lexer::{MAX_TEXT, tokens};
 pub use place_in_text::text_place;
 pub use seen::{between, capped_number, character_value, digits_of, is_label, is_local, suffix_of};
