@@ -1,5 +1,5 @@
 -- The openings of a list of steps, from the last one on.
-use Rattle.std.proofs.Common.{◌≡◌, ℕ, zero, suc, ◌+◌, ◌<◌, ◌≤◌, List, [], ◌∷◌, ◌++◌, length, take, get_or, append_assoc, append-nil, ◌∙◌, ap, sym, arith}
+use Rattle.std.proofs.Common.{◌≡◌, ℕ, zero, suc, ◌<◌, List, [], ◌∷◌, ◌++◌, length, take, get_or, append_assoc, append-nil, ◌∙◌, ap, sym, arith}
 use Rattle.mir_ir.specs.declared.places.Projection.{Projection}
 use Rattle.canonical_text.specs.Places.{opening, openings}
 

@@ -1,5 +1,5 @@
 -- The equations of canonical texts.
-use Rattle.std.proofs.Common.{◌≡◌, ℕ, Bool, true, false, List, [], ◌∷◌, ◌++◌, map, codes, append_assoc, ◌∙◌, ap, sym}
+use Rattle.std.proofs.Common.{◌≡◌, ℕ, Bool, true, false, List, ◌++◌, append_assoc, ◌∙◌, ap, sym}
 use Rattle.mir_ir.specs.declared.types.Ty.{Ty, out-Ty, map-Ty, fold_out-Ty}
 use Rattle.mir_ir.specs.declared.types.Ty.TheOpen.{Ty-F}
 use Rattle.mir_ir.specs.declared.types.Ty.TheViews.{roll-Ty}

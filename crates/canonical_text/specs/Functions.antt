@@ -4,6 +4,7 @@ use Rattle.mir_ir.specs.declared.tree.Block.{Block}
 use Rattle.mir_ir.specs.declared.tree.Local.{Local}
 use Rattle.mir_ir.specs.declared.tree.Statement.{Statement}
 use Rattle.mir_ir.specs.declared.tree.Function.{Function}
+use Rattle.canonical_text.specs.declared.positions.Position.TheVariants.{Alone}
 use Rattle.canonical_text.specs.Names.{path_written}
 use Rattle.canonical_text.specs.Types.{type_text}
 use Rattle.canonical_text.specs.Places.{label_text, local_text}
@@ -39,7 +40,7 @@ blocks_text (b ∷ bs) = block_text b ++ blocks_text bs
 
 -- `fn f(_1: u8) -> u8 {`; the first locals are the parameters
 unfoldable pub head_text : Function → List ℕ
-head_text f = codes "fn " ++ path_written f.name ++ codes "(" ++ parameters_text (take f.parameters f.locals) ++ codes ") -> " ++ type_text f.result ++ codes " {\n"
+head_text f = codes "fn " ++ path_written Alone f.name ++ codes "(" ++ parameters_text (take f.parameters f.locals) ++ codes ") -> " ++ type_text f.result ++ codes " {\n"
 
 unfoldable pub function_text : Function → List ℕ
 function_text f = head_text f ++ lets_text (drop f.parameters f.locals) ++ blocks_text f.blocks ++ codes "}\n"

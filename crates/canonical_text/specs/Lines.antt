@@ -11,6 +11,7 @@ use Rattle.mir_ir.specs.declared.tree.Statement.TheVariants as statement
 use Rattle.mir_ir.specs.declared.tree.Terminator.{Terminator}
 use Rattle.mir_ir.specs.declared.tree.Terminator.TheVariants as terminator
 use Rattle.mir_ir.specs.declared.places.PlaceExpr.{PlaceExpr}
+use Rattle.canonical_text.specs.declared.positions.Position.TheVariants.{AsValue}
 use Rattle.canonical_text.specs.Names.{path_written}
 use Rattle.canonical_text.specs.Places.{label_text, local_text, place_text}
 use Rattle.canonical_text.specs.Operands.{more_operands, operand_text, operands_text, quoted}
@@ -62,7 +63,7 @@ unfoldable pub assert_text : Operand → Bool → List ℕ → List Operand → 
 assert_text o expected text shown next = codes "assert(" ++ expected_word expected ++ operand_text o ++ codes ", " ++ quoted text ++ more_operands shown ++ codes ")" ++ goes_on_text (codes "success") next
 
 unfoldable pub call_text : PlaceExpr → Callee → List Operand → Option BlockId → List ℕ
-call_text destination callee arguments next = place_text destination ++ codes " = " ++ path_written callee.path ++ codes "(" ++ operands_text arguments ++ codes ")" ++ call_end_text next
+call_text destination callee arguments next = place_text destination ++ codes " = " ++ path_written AsValue callee.path ++ codes "(" ++ operands_text arguments ++ codes ")" ++ call_end_text next
 
 abbrev pub terminator_text : Terminator → List ℕ
 terminator_text (terminator.Goto target) = goto_text target.0

@@ -1,5 +1,5 @@
 -- The canonical text of constants and operands.
-use Rattle.std.specs.Prelude.{ℕ, ◌+◌, ◌-◌, ◌*◌, ◌/◌, ◌%◌, ◌^◌, zero, suc, Bool, true, false, ◌&&◌, nat_le, nat_lt, if◌then◌else◌, List, [], ◌∷◌, ◌++◌, codes}
+use Rattle.std.specs.Prelude.{ℕ, ◌-◌, ◌^◌, Bool, true, false, ◌&&◌, nat_le, if◌then◌else◌, List, [], ◌∷◌, ◌++◌, codes}
 use Rattle.std.specs.Fmt.{decimal, digits}
 use Rattle.word_bits.specs.declared.word.Word.{Word}
 use Rattle.mir_ir.specs.declared.types.IntTy.{IntTy}
@@ -9,6 +9,7 @@ use Rattle.mir_ir.specs.declared.tree.Operand.{Operand}
 use Rattle.mir_ir.specs.declared.tree.Operand.TheVariants as operand
 use Rattle.mir_ir.specs.Integers.{is_signed, width_of}
 use Rattle.mir_ir.specs.Names.{name_of_int}
+use Rattle.canonical_text.specs.declared.positions.Position.TheVariants.{AsConstant}
 use Rattle.canonical_text.specs.Names.{path_written}
 use Rattle.canonical_text.specs.Places.{place_text}
 
@@ -37,7 +38,7 @@ constant_text (constant.Bool b) = bool_text b
 constant_text (constant.Char n) = char_text n
 constant_text (constant.Text bytes) = quoted bytes
 constant_text constant.Unit = codes "()"
-constant_text (constant.Named path) = path_written path
+constant_text (constant.Named path) = path_written AsConstant path
 
 abbrev pub operand_text : Operand → List ℕ
 operand_text (operand.Copy p) = codes "copy " ++ place_text p

@@ -8,9 +8,9 @@ use Rattle.mir_ir.specs.declared.tree.NamedOperand.{NamedOperand}
 use Rattle.mir_ir.specs.declared.tree.Operand.{Operand}
 use Rattle.mir_ir.specs.declared.tree.Rvalue.{Rvalue}
 use Rattle.mir_ir.specs.declared.tree.Rvalue.TheVariants as rvalue
-use Rattle.mir_ir.specs.declared.places.PlaceExpr.{PlaceExpr}
 use Rattle.mir_ir.specs.declared.types.Ty.{Ty}
 use Rattle.mir_ir.specs.Names.{name_of_binary}
+use Rattle.canonical_text.specs.declared.positions.Position.TheVariants.{AsValue}
 use Rattle.canonical_text.specs.Names.{path_written}
 use Rattle.canonical_text.specs.Types.{reference_word, type_text}
 use Rattle.canonical_text.specs.Places.{place_text}
@@ -67,7 +67,7 @@ fields_text (f ∷ fs) = codes " " ++ field_text f ++ more_fields fs
 
 -- `S { x: a, y: b }`, and `S { }` without fields
 unfoldable pub aggregate_text : List ℕ → List NamedOperand → List ℕ
-aggregate_text path fields = path_written path ++ codes " {" ++ fields_text fields ++ codes " }"
+aggregate_text path fields = path_written AsValue path ++ codes " {" ++ fields_text fields ++ codes " }"
 
 abbrev pub rvalue_text : Rvalue → List ℕ
 rvalue_text (rvalue.Use o) = operand_text o
@@ -85,6 +85,6 @@ rvalue_text (rvalue.AlignOf t) = applied (codes "AlignOf") (type_text t)
 rvalue_text (rvalue.Array operands) = in_brackets (operands_text operands)
 rvalue_text (rvalue.Repeat o count) = repeat_text o count
 rvalue_text (rvalue.Tuple operands) = tuple_text operands
-rvalue_text (rvalue.PathUnit path) = path_written path
-rvalue_text (rvalue.PathTuple path operands) = applied (path_written path) (operands_text operands)
+rvalue_text (rvalue.PathUnit path) = path_written AsValue path
+rvalue_text (rvalue.PathTuple path operands) = applied (path_written AsValue path) (operands_text operands)
 rvalue_text (rvalue.PathFields path fields) = aggregate_text path fields

@@ -5,6 +5,7 @@ use Rattle.mir_ir.specs.declared.types.Ty.{Ty}
 use Rattle.mir_ir.specs.declared.types.Ty.TheOpen.{Ty-F}
 use Rattle.mir_ir.specs.declared.types.Ty.TheFolds.{fold-Ty}
 use Rattle.mir_ir.specs.Names.{name_of_int}
+use Rattle.canonical_text.specs.declared.positions.Position.TheVariants.{Alone, AsType}
 use Rattle.canonical_text.specs.Names.{path_written}
 
 -- texts with a comma and a blank before each
@@ -44,8 +45,8 @@ form_text (Ty-F.Slice item) = codes "[" ++ item ++ codes "]"
 form_text (Ty-F.Ref mutable target) = reference_word mutable ++ target
 form_text (Ty-F.Raw mutable target) = pointer_word mutable ++ target
 form_text (Ty-F.BoxOf target) = codes "Box<" ++ target ++ codes ">"
-form_text (Ty-F.Dyn path) = codes "dyn " ++ path_written path
-form_text (Ty-F.Named path) = path_written path
+form_text (Ty-F.Dyn path) = codes "dyn " ++ path_written Alone path
+form_text (Ty-F.Named path) = path_written AsType path
 
 unfoldable pub type_text : Ty → List ℕ
 type_text = fold-Ty (List ℕ) form_text

@@ -4,6 +4,7 @@ ghost use Rattle.canonical_text.specs.Functions.{block_text, blocks_text, declar
 use crate::lines::{push_statement, push_terminator};
 use crate::names::push_path;
 use crate::places::{push_label, push_local};
+use crate::positions::Position;
 use crate::pushes::push_text;
 use crate::types::push_type;
 use mir_ir::{Block, Function, Local, Statement};
@@ -58,7 +59,7 @@ fn push_head(out: &mut Vec<u8>, function: &Function) -> Result<(), NoMemory>
     ensures { OnOk result (out.new.items ≡ out.old.items ++ head_text function.now) }
 {
     push_text(out, "fn ")?;
-    push_path(out, &function.name)?;
+    push_path(out, Position::Alone, &function.name)?;
     push_text(out, "(")?;
     push_parameters(out, parameters(function))?;
     push_text(out, ") -> ")?;

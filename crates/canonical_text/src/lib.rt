@@ -6,6 +6,7 @@ mod lines;
 mod names;
 mod operands;
 mod places;
+mod positions;
 mod pushes;
 mod rvalues;
 mod types;

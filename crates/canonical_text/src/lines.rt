@@ -4,6 +4,7 @@ ghost use Rattle.canonical_text.specs.Lines.{arms_text, assert_text, assign_text
 use crate::names::push_path;
 use crate::operands::{push_more_operands, push_operand, push_operands, push_quoted};
 use crate::places::{push_label, push_local, push_place};
+use crate::positions::Position;
 use crate::pushes::{push_decimal, push_text};
 use crate::rvalues::push_rvalue;
 use mir_ir::{Arm, Callee, Operand, PlaceExpr, Rvalue, Statement, Terminator};
@@ -190,7 +191,7 @@ fn push_call(
 {
     push_place(out, destination)?;
     push_text(out, " = ")?;
-    push_path(out, &callee.path)?;
+    push_path(out, Position::AsValue, &callee.path)?;
     push_text(out, "(")?;
     push_operands(out, arguments)?;
     push_text(out, ")")?;

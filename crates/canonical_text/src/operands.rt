@@ -4,6 +4,7 @@ ghost use Rattle.canonical_text.specs.Operands.{bool_text, char_text, constant_t
 
 use crate::names::push_path;
 use crate::places::push_place;
+use crate::positions::Position;
 use crate::pushes::{push_decimal, push_text};
 use mir_ir::{Constant, IntTy, Operand};
 use vk_core::NoMemory;
@@ -63,7 +64,7 @@ fn push_constant(out: &mut Vec<u8>, constant: &Constant) -> Result<(), NoMemory>
         Constant::Char(number) => push_char(out, *number)?,
         Constant::Text(bytes) => push_quoted(out, bytes.as_slice())?,
         Constant::Unit => push_text(out, "()")?,
-        Constant::Named(path) => push_path(out, path)?,
+        Constant::Named(path) => push_path(out, Position::AsConstant, path)?,
     }
     Ok(())
 }

@@ -1,5 +1,6 @@
 ghost use Rattle.std.specs.Prelude.{◌≡◌, ◌++◌, OnOk, codes};
 ghost use Rattle.canonical_text.specs.Rvalues.{aggregate_text, applied, binary_text, cast_text, comma_of_one_operand, field_text, fields_text, in_brackets, kind_text, more_fields, raw_word, repeat_text, rvalue_text, tuple_text};
+ghost use Rattle.canonical_text.specs.declared.positions.Position.TheVariants.{AsValue};
 ghost use Rattle.canonical_text.specs.Names.{path_written};
 ghost use Rattle.canonical_text.specs.Operands.{operand_text, operands_text};
 ghost use Rattle.canonical_text.specs.Places.{place_text};
@@ -8,6 +9,7 @@ ghost use Rattle.canonical_text.specs.Types.{type_text};
 use crate::names::push_path;
 use crate::operands::{push_operand, push_operands};
 use crate::places::push_place;
+use crate::positions::Position;
 use crate::pushes::{push_decimal, push_name, push_text};
 use crate::types::{push_type, reference_word};
 use mir_ir::{BinaryOp, CastKind, NamedOperand, Operand, PlaceExpr, Rvalue, Ty};
@@ -32,7 +34,7 @@ pub fn push_rvalue(out: &mut Vec<u8>, value: &Rvalue) -> Result<(), NoMemory>
         Rvalue::Array(operands) => push_array(out, operands.as_slice())?,
         Rvalue::Repeat { operand, count } => push_repeat(out, operand, *count)?,
         Rvalue::Tuple(operands) => push_tuple(out, operands.as_slice())?,
-        Rvalue::PathUnit(path) => push_path(out, path)?,
+        Rvalue::PathUnit(path) => push_path(out, Position::AsValue, path)?,
         Rvalue::PathTuple { path, operands } => push_path_tuple(out, path, operands.as_slice())?,
         Rvalue::PathFields { path, fields } => push_aggregate(out, path, fields.as_slice())?,
     }
@@ -164,9 +166,9 @@ fn comma_of_one(operands: &[Operand]) -> &'static str
 
 #[tactic(auto, unfolding(crate::specs::Rvalues::applied))]
 fn push_path_tuple(out: &mut Vec<u8>, path: &Name, operands: &[Operand]) -> Result<(), NoMemory>
-    ensures { OnOk result (out.new.items ≡ out.old.items ++ applied (path_written path.now) (operands_text operands.now)) }
+    ensures { OnOk result (out.new.items ≡ out.old.items ++ applied (path_written AsValue path.now) (operands_text operands.now)) }
 {
-    push_path(out, path)?;
+    push_path(out, Position::AsValue, path)?;
     push_text(out, "(")?;
     push_operands(out, operands)?;
     push_text(out, ")")?;
@@ -177,7 +179,7 @@ fn push_path_tuple(out: &mut Vec<u8>, path: &Name, operands: &[Operand]) -> Resu
 fn push_aggregate(out: &mut Vec<u8>, path: &Name, fields: &[NamedOperand]) -> Result<(), NoMemory>
     ensures { OnOk result (out.new.items ≡ out.old.items ++ aggregate_text path.now fields.now) }
 {
-    push_path(out, path)?;
+    push_path(out, Position::AsValue, path)?;
     push_text(out, " {")?;
     push_fields(out, fields)?;
     push_text(out, " }")?;

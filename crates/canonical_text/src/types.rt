@@ -1,9 +1,11 @@
 ghost use Rattle.std.specs.Prelude.{◌≡◌, ◌++◌, OnOk, IfOk, codes, map};
 ghost use Rattle.std.specs.Fmt.{decimal};
+ghost use Rattle.canonical_text.specs.declared.positions.Position.TheVariants.{Alone};
 ghost use Rattle.canonical_text.specs.Names.{path_written};
 ghost use Rattle.canonical_text.specs.Types.{comma_of_one, pointer_word, reference_word, type_text, with_commas};
 
 use crate::names::push_path;
+use crate::positions::Position;
 use crate::pushes::{push_decimal, push_text};
 use mir_ir::Ty;
 use std::alloc::Global;
@@ -38,7 +40,7 @@ pub fn push_type(out: &mut Vec<u8>, ty: &Ty) -> Result<(), NoMemory>
         Ty::Raw { mutable, target } => push_target(out, pointer_word(*mutable), target.get())?,
         Ty::BoxOf(target) => push_box(out, target.get())?,
         Ty::Dyn(path) => push_dyn(out, path)?,
-        Ty::Named(path) => push_path(out, path)?,
+        Ty::Named(path) => push_path(out, Position::AsType, path)?,
     }
     Ok(())
 }
@@ -105,10 +107,10 @@ fn push_box(out: &mut Vec<u8>, target: &Ty) -> Result<(), NoMemory>
 }
 
 fn push_dyn(out: &mut Vec<u8>, path: &Name) -> Result<(), NoMemory>
-    ensures { OnOk result (out.new.items ≡ out.old.items ++ (codes "dyn " ++ path_written path.now)) }
+    ensures { OnOk result (out.new.items ≡ out.old.items ++ (codes "dyn " ++ path_written Alone path.now)) }
 {
     push_text(out, "dyn ")?;
-    push_path(out, path)?;
+    push_path(out, Position::Alone, path)?;
     Ok(())
 }
 

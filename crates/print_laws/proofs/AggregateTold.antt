@@ -15,6 +15,7 @@ use Rattle.mir_grammar.specs.declared.trees.ArrayTail.TheVariants.{Times, Others
 use Rattle.mir_grammar.specs.Lexemes.{Lexeme, class_of, sign}
 use Rattle.mir_grammar.specs.Types.{Family, AnyType, any_word}
 use Rattle.mir_grammar.specs.Values.{values_of, to_array_of, to_no_array, to_times, ArrayRest, ArrayOf, to_tuple_of, TupleOf, Marked, OperandOf, Operands, FormedValue, value_words, free_words, ValuePath, to_field, Field, Fields, to_path_unit, to_path_tuple, to_path_fields, RvalueOf}
+use Rattle.canonical_text.specs.declared.positions.Position.TheVariants.{AsValue}
 use Rattle.canonical_text.specs.Names.{path_written}
 use Rattle.canonical_text.specs.Operands.{operand_text, operands_text, more_operands}
 use Rattle.canonical_text.specs.Rvalues.{in_brackets, repeat_text, comma_of_one_operand, tuple_text, field_text, more_fields, fields_text, aggregate_text, rvalue_text}
@@ -22,6 +23,7 @@ use Rattle.print_laws.proofs.Leads.{all_leads, word_follow}
 use Rattle.print_laws.proofs.Fits as fits
 use Rattle.print_laws.proofs.Fits.{Fits, fits_join, fits_wide, fits_text, fits_none}
 use Rattle.print_laws.proofs.Tokens.{word_token}
+use Rattle.print_laws.proofs.Reserved.{value_keys}
 use Rattle.print_laws.proofs.TypeTexts.{Retold, path_from, opening_inside, closing_inside, bracket_inside, bracket_end_inside, semicolon_inside}
 use Rattle.print_laws.proofs.TypeTold.{number_told}
 use Rattle.print_laws.proofs.PlaceTold.{PlacesTold, TypesTold, comma_inside, colon_inside}
@@ -141,8 +143,8 @@ tuple_told q p = told_made to_tuple_of value_of rvalue.Tuple rvalue_text tuple_i
 abbrev path_of : Named → List ℕ
 path_of n = n.text
 
-pub value_path_told : {T U : Family} → Retold T U → Told word_follow (1 ∷ 7 ∷ []) (ValuePath T) (ValuePath U) path_of path_written
-value_path_told q = told_again path_of path_written (λ n. refl) (path_from value_words free_words refl refl refl refl refl q)
+pub value_path_told : {T U : Family} → Retold T U → Told word_follow (1 ∷ 7 ∷ []) (ValuePath T) (ValuePath U) path_of (path_written AsValue)
+value_path_told q = told_again path_of (path_written AsValue) (λ n. refl) (path_from AsValue value_words free_words value_keys refl refl refl refl q)
 
 unit_told : {T U : Family} → Retold T U → ValuesTold (Made to_path_unit (ValuePath T)) (Made to_path_unit (ValuePath U))
 unfolding to_path_unit
@@ -153,7 +155,7 @@ unfolding to_path_tuple
 call_is v = ap (rvalue.PathTuple v.0.text) (values_map v.1)
 
 call_told : {T U : Family} {P Q : Part Lexeme Placed} → Retold T U → PlacesTold P Q → ValuesTold (Made to_path_tuple (Then (ValuePath T) (Operands T P))) (Made to_path_tuple (Then (ValuePath U) (Operands U Q)))
-call_told q p = told_made to_path_tuple value_of (λ x. rvalue.PathTuple x.0 x.1) rvalue_text call_is (λ x. applied_is (path_written x.0) (operands_text x.1)) (told_wide word_follow (1 ∷ 3 ∷ 7 ∷ []) refl refl (told_then (value_path_told q) (operands_told q p) refl))
+call_told q p = told_made to_path_tuple value_of (λ x. rvalue.PathTuple x.0 x.1) rvalue_text call_is (λ x. applied_is (path_written AsValue x.0) (operands_text x.1)) (told_wide word_follow (1 ∷ 3 ∷ 7 ∷ []) refl refl (told_then (value_path_told q) (operands_told q p) refl))
 
 -- Fields.
 
@@ -197,9 +199,9 @@ aggregate_is : (v : Named × List (Limited NamedOperand)) → value_of (to_path_
 unfolding to_path_fields
 aggregate_is v = ap (rvalue.PathFields v.0.text) (fields_map v.1)
 
-aggregate_text_is : (x : List ℕ × List NamedOperand) → path_written x.0 ++ (codes " {" ++ (fields_text x.1 ++ codes " }")) ≡ rvalue_text (rvalue.PathFields x.0 x.1)
+aggregate_text_is : (x : List ℕ × List NamedOperand) → path_written AsValue x.0 ++ (codes " {" ++ (fields_text x.1 ++ codes " }")) ≡ rvalue_text (rvalue.PathFields x.0 x.1)
 unfolding aggregate_text
-aggregate_text_is x = four (path_written x.0) (codes " {") (fields_text x.1) (codes " }")
+aggregate_text_is x = four (path_written AsValue x.0) (codes " {") (fields_text x.1) (codes " }")
 
 aggregate_told : {T U : Family} {P Q : Part Lexeme Placed} → Retold T U → PlacesTold P Q → ValuesTold (Made to_path_fields (Then (ValuePath T) (Fields T P))) (Made to_path_fields (Then (ValuePath U) (Fields U Q)))
 aggregate_told q p = told_made to_path_fields value_of (λ x. rvalue.PathFields x.0 x.1) rvalue_text aggregate_is aggregate_text_is (told_wide word_follow (1 ∷ 3 ∷ 7 ∷ []) refl refl (told_then (value_path_told q) (fields_told q p) refl))

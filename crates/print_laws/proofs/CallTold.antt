@@ -15,6 +15,7 @@ use Rattle.mir_grammar.specs.Lexemes.{Lexeme, class_of, sign, word, text_body}
 use Rattle.mir_grammar.specs.Types.{Family}
 use Rattle.mir_grammar.specs.Values.{ValuePath}
 use Rattle.mir_grammar.specs.Blocks.{Label, Bracketed, bare_target, block_target, edge_target, returns, TargetPart, to_drop, to_assert, Assert, DropPart, Called, to_call, CallOf, TerminatorOf}
+use Rattle.canonical_text.specs.declared.positions.Position.TheVariants.{AsValue}
 use Rattle.canonical_text.specs.Names.{path_written}
 use Rattle.canonical_text.specs.Places.{place_text}
 use Rattle.canonical_text.specs.Operands.{operand_text, more_operands, operands_text, quoted}
@@ -31,6 +32,7 @@ use Rattle.print_laws.proofs.AggregateTold.{values_map, more_told}
 use Rattle.print_laws.proofs.LineTold.{spaced_equal, equal_inside}
 use Rattle.print_laws.proofs.Told.{Telling, Told, told_either, told_nothing, told_mark, Leaves, leaves_made, leaves_either, told_leaves}
 use Rattle.print_laws.proofs.EndingTold.{label_part, edge_leaves, edge_telling, in_brackets, bracketed_label, next_told, goto_told, return_told, unreachable_told, switch_told, arrow_as, drop_inside, drop_fits, assert_inside, assert_fits, return_inside, return_fits, success_inside, success_fits, not_inside, EndingsTold, id_text, bracket_text, block_id_of, Resolved, ending_with, ending_of, resolved_text}
+use Rattle.print_laws.proofs.Reserved.{value_keys}
 use Rattle.print_laws.proofs.TypeTexts.{path_from}
 use Rattle.mir_grammar.specs.Values.{value_words, free_words}
 use Rattle.print_laws.proofs.Told.{told_again}
@@ -159,8 +161,8 @@ target_told c = record {
 abbrev callee_of : Named → Callee
 callee_of n = record { path = n.text; argument = n.argument }
 
-callee_told : {T U : Family} → Retold T U → Told word_follow (1 ∷ 7 ∷ []) (ValuePath T) (ValuePath U) callee_of (λ x. path_written x.path)
-callee_told q = told_again callee_of (λ x. path_written x.path) (λ n. refl) (path_from value_words free_words refl refl refl refl refl q)
+callee_told : {T U : Family} → Retold T U → Told word_follow (1 ∷ 7 ∷ []) (ValuePath T) (ValuePath U) callee_of (λ x. path_written AsValue x.path)
+callee_told q = told_again callee_of (λ x. path_written AsValue x.path) (λ n. refl) (path_from AsValue value_words free_words value_keys refl refl refl refl q)
 
 abbrev CalledParts : Type 0
 CalledParts = PlaceExpr × (Callee × (List Operand × Going))
@@ -175,10 +177,10 @@ call_end_is None = refl
 seven : (a b c d e f g : List ℕ) → a ++ (b ++ (c ++ ((d ++ (e ++ f)) ++ g))) ≡ (((((a ++ b) ++ c) ++ d) ++ e) ++ f) ++ g
 seven a b c d e f g = search (rules, append_assoc)
 
-call_is : (x : CalledParts) → place_text x.0 ++ (codes " = " ++ (path_written x.1.0.path ++ ((codes "(" ++ (operands_text x.1.1.0 ++ codes ")")) ++ (codes " -> " ++ (going_text x.1.1.1 ++ codes ";"))))) ≡ resolved_text (call_of x)
+call_is : (x : CalledParts) → place_text x.0 ++ (codes " = " ++ (path_written AsValue x.1.0.path ++ ((codes "(" ++ (operands_text x.1.1.0 ++ codes ")")) ++ (codes " -> " ++ (going_text x.1.1.1 ++ codes ";"))))) ≡ resolved_text (call_of x)
 unfolding call_text
-call_is x = ap (λ y. place_text x.0 ++ (codes " = " ++ (path_written x.1.0.path ++ ((codes "(" ++ (operands_text x.1.1.0 ++ codes ")")) ++ y)))) (call_end_is (x.1.1.1 (λ n. false)))
-    ∙ seven (place_text x.0) (codes " = ") (path_written x.1.0.path) (codes "(") (operands_text x.1.1.0) (codes ")") (call_end_text (x.1.1.1 (λ n. false)))
+call_is x = ap (λ y. place_text x.0 ++ (codes " = " ++ (path_written AsValue x.1.0.path ++ ((codes "(" ++ (operands_text x.1.1.0 ++ codes ")")) ++ y)))) (call_end_is (x.1.1.1 (λ n. false)))
+    ∙ seven (place_text x.0) (codes " = ") (path_written AsValue x.1.0.path) (codes "(") (operands_text x.1.1.0) (codes ")") (call_end_text (x.1.1.1 (λ n. false)))
 
 call_made : (c : ℕ → Bool) (v : Placed × Called) → ending_with c (to_call v) ≡ call_of (v.0.place, (callee_of v.1.0, (map operand_of v.1.1.0, target_with c v.1.1.1)))
 unfolding to_call

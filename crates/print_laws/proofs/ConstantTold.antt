@@ -19,6 +19,7 @@ use Rattle.mir_grammar.specs.declared.limits.Limited.{Limited}
 use Rattle.mir_grammar.specs.Lexemes.{Lexeme, class_of, sign, word, number, number_value, number_type, text_body, char_value, fits_plus, fits_minus}
 use Rattle.mir_grammar.specs.Types.{Family, PathFrom}
 use Rattle.mir_grammar.specs.Values.{integer_of, to_plus, to_minus, to_bool, to_char, to_text, to_unit, least_word, greatest_word, bound_or_name, to_named, truths, constant_words, FormedConstant, ConstantOf}
+use Rattle.canonical_text.specs.declared.positions.Position.TheVariants.{AsConstant}
 use Rattle.canonical_text.specs.Operands.{integer_text, char_text, quoted, constant_text}
 use Rattle.print_laws.specs.Printed.{ArePrintable}
 use Rattle.print_laws.proofs.Leads.{lead, all_leads, word_follow, quote_lead}
@@ -26,6 +27,7 @@ use Rattle.print_laws.proofs.Fits as fits
 use Rattle.print_laws.proofs.Fits.{Fits, fits_join, fits_text, fits_token, fits_wide}
 use Rattle.print_laws.proofs.Again.{past_token}
 use Rattle.print_laws.proofs.Bands.{is_text_kind, is_character_kind}
+use Rattle.print_laws.proofs.Reserved.{constant_keys}
 use Rattle.print_laws.proofs.TypeTexts.{Retold, path_from, opening_inside, closing_inside}
 use Rattle.print_laws.proofs.Integers.{half, low, some_number, typed_text, typed_type, typed_value, typed_fits, plus_inside, minus_inside}
 use Rattle.print_laws.proofs.Characters.{char_code, between_quotes, printed_character, token_char}
@@ -270,7 +272,7 @@ name_told : {T U : Family} → Retold T U → ConstantsTold (Made to_named (Path
 unfolding to_named
 name_told {T} {U} q = record {
   tell = λ ts rest a r p. subst (λ x. ConstantTelling (ConstantOf U) (constant_of x)) r.1 (elim (bound_cases all_ints r.0.text) [
-    | inl e ↦ let k = (path_from truths constant_words refl refl refl refl refl q).keep ts rest r.0 r.2 p in record {
+    | inl e ↦ let k = (path_from AsConstant truths constant_words constant_keys refl refl refl refl q).keep ts rest r.0 r.2 p in record {
       lexemes = k.lexemes;
       value = to_named r.0;
       same = refl;
@@ -279,7 +281,7 @@ name_told {T} {U} q = record {
     }
     | inr b ↦ let k = integer_telling b.0 b.1 b.2 in subst (ConstantTelling (ConstantOf U)) (sym b.3) (record { lexemes = k.lexemes; value = k.value; same = k.same; reads = λ x. inl (k.reads x); fits = k.fits })
   ]);
-  left = λ ts rest a r p. ((path_from truths constant_words refl refl refl refl refl q).keep ts rest r.0 r.2 p).left;
+  left = λ ts rest a r p. ((path_from AsConstant truths constant_words constant_keys refl refl refl refl q).keep ts rest r.0 r.2 p).left;
 }
 
 pub constant_told : {T U : Family} → Retold T U → ConstantsTold (ConstantOf T) (ConstantOf U)

@@ -6,6 +6,8 @@ use Rattle.mir_grammar.specs.Types.{any_word}
 use Rattle.mir_grammar.specs.Functions.{TypeText, PlaceText}
 use Rattle.print_laws.specs.Printed.{Writes}
 use Rattle.print_laws.specs.Laws.{EachTypeReadsAgain, EachPathReadsAgain, EachTypeIsPrinted, EachPlaceIsPrinted}
+use Rattle.canonical_text.specs.declared.positions.Position.{Position}
+use Rattle.canonical_text.specs.declared.positions.Position.TheVariants.{Alone}
 use Rattle.canonical_text.specs.Names.{path_written}
 use Rattle.canonical_text.specs.Types.{type_text}
 use Rattle.print_laws.proofs.Spelt.{coarsely}
@@ -17,14 +19,14 @@ use Rattle.print_laws.proofs.PlaceTold.{places_told}
 use Rattle.print_laws.proofs.TupleTold.{printed}
 use Rattle.print_laws.proofs.Writing.{fits_writes}
 
-kept_alone : {A : Type 0} {l text : List ℕ} {W : Part Lexeme A} {a : A} {rest : List Lexeme} → Kept word_follow l W text a rest → (ls : List Lexeme) × Writes (path_written text) ls × W ls a []
-kept_alone {A} {l} {text} {W} {a} k = (k.lexemes, fits_writes word_follow (coarsely l) (path_written text) k.lexemes refl k.spelt.fits, subst (λ x. W x a []) (append-nil k.lexemes) (k.reads []))
+kept_alone : {A : Type 0} {here : Position} {l text : List ℕ} {W : Part Lexeme A} {a : A} {rest : List Lexeme} → Kept here word_follow l W text a rest → (ls : List Lexeme) × Writes (path_written here text) ls × W ls a []
+kept_alone {A} {here} {l} {text} {W} {a} k = (k.lexemes, fits_writes word_follow (coarsely l) (path_written here text) k.lexemes refl k.spelt.fits, subst (λ x. W x a []) (append-nil k.lexemes) (k.reads []))
 
 pub each_type_reads_again : EachTypeReadsAgain
 each_type_reads_again d ts n h r = let t = levels (suc d) (suc d) (omega arith) in kept_alone (t.any.keep ts [] n h r)
 
 pub each_path_reads_again : EachPathReadsAgain
-each_path_reads_again d ts n h r = let t = free_path any_word refl refl (levels (suc d) (suc d) (omega arith)) in kept_alone (t.keep ts [] n h r)
+each_path_reads_again d ts n h r = let t = free_path Alone any_word refl refl (levels (suc d) (suc d) (omega arith)) in kept_alone (t.keep ts [] n h r)
 
 pub each_type_is_printed : EachTypeIsPrinted
 each_type_is_printed d ts n h r = let t = printed (suc d) (suc d) (omega arith) in let k = t.any.tell ts [] n h r in

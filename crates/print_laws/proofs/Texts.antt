@@ -16,6 +16,7 @@ use Rattle.mir_grammar.specs.Lexemes.{Lexeme}
 use Rattle.mir_grammar.specs.Types.{Family, AnyType, any_word, FreePath}
 use Rattle.mir_grammar.specs.Places.{to_local_id}
 use Rattle.mir_grammar.specs.Functions.{to_items, Items, ItemPart, to_function, FunctionPart}
+use Rattle.canonical_text.specs.declared.positions.Position.TheVariants.{Alone}
 use Rattle.canonical_text.specs.Names.{path_written}
 use Rattle.canonical_text.specs.Types.{type_text}
 use Rattle.canonical_text.specs.Functions.{parameters_text, lets_text, blocks_text, head_text, function_text}
@@ -65,9 +66,9 @@ whole_text here f =
     let ls = locals_of f.parameters in let more = result_local f.result.ty f.items ∷ by_number (others_of f.items) in
     let t : take (length f.parameters) (locals_of f.parameters ++ result_local f.result.ty f.items ∷ by_number (others_of f.items)) ≡ map local_of f.parameters = take_at ls more (length f.parameters) (sym (locals_length f.parameters)) ∙ locals_map f.parameters in
     let u : drop (length f.parameters) (locals_of f.parameters ++ result_local f.result.ty f.items ∷ by_number (others_of f.items)) ≡ result_local f.result.ty f.items ∷ by_number (others_of f.items) = drop_at ls more (length f.parameters) (sym (locals_length f.parameters)) in
-    ten (codes "fn ") (path_written f.name.text) (codes "(") (parameters_text (map local_of f.parameters)) (codes ")") (codes " -> ") (type_text f.result.ty) (codes " {\n") (lets_text more) (blocks_text (blocks_of f.blocks)) (codes "}\n")
-    ∙ sym (ap (λ x. ((((((((codes "fn " ++ path_written f.name.text) ++ codes "(") ++ parameters_text x) ++ codes ") -> ") ++ type_text f.result.ty) ++ codes " {\n") ++ lets_text (drop (length f.parameters) (locals_of f.parameters ++ more))) ++ blocks_text (blocks_of f.blocks)) ++ codes "}\n") t
-    ∙ ap (λ x. ((((((((codes "fn " ++ path_written f.name.text) ++ codes "(") ++ parameters_text (map local_of f.parameters)) ++ codes ") -> ") ++ type_text f.result.ty) ++ codes " {\n") ++ lets_text x) ++ blocks_text (blocks_of f.blocks)) ++ codes "}\n") u)
+    ten (codes "fn ") (path_written Alone f.name.text) (codes "(") (parameters_text (map local_of f.parameters)) (codes ")") (codes " -> ") (type_text f.result.ty) (codes " {\n") (lets_text more) (blocks_text (blocks_of f.blocks)) (codes "}\n")
+    ∙ sym (ap (λ x. ((((((((codes "fn " ++ path_written Alone f.name.text) ++ codes "(") ++ parameters_text x) ++ codes ") -> ") ++ type_text f.result.ty) ++ codes " {\n") ++ lets_text (drop (length f.parameters) (locals_of f.parameters ++ more))) ++ blocks_text (blocks_of f.blocks)) ++ codes "}\n") t
+    ∙ ap (λ x. ((((((((codes "fn " ++ path_written Alone f.name.text) ++ codes "(") ++ parameters_text (map local_of f.parameters)) ++ codes ") -> ") ++ type_text f.result.ty) ++ codes " {\n") ++ lets_text x) ++ blocks_text (blocks_of f.blocks)) ++ codes "}\n") u)
 
 -- Locals in their order again.
 
@@ -184,7 +185,7 @@ function_leaves {T} {U} {P} {Q} q t p S i = leaves_made to_function (leaves_past
     (leaves_past (5 ∷ []) refl (leaves_ended (6 ∷ []) refl (leaves_then i.left (leaves_each (block_leaves q t p))))))))))
   where
     name_leaves : Leaves (FreePath any_word T)
-    name_leaves = record { leaves = λ ts rest n h r. ((free_path any_word refl refl q).keep ts rest n h r).left }
+    name_leaves = record { leaves = λ ts rest n h r. ((free_path Alone any_word refl refl q).keep ts rest n h r).left }
 
 -- Texts.
 

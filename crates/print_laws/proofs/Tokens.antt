@@ -10,13 +10,15 @@ use Rattle.grammar_words.specs.Classes.{has, inside}
 use Rattle.grammar_words.proofs.Starts.{one_of}
 use Rattle.mir_grammar.specs.Lexemes.{Lexeme, class_of, sign, signs}
 use Rattle.mir_grammar.specs.Types.{type_names}
-use Rattle.canonical_text.specs.Names.{is_reserved, path_written}
+use Rattle.canonical_text.specs.declared.positions.Position.{Position}
+use Rattle.canonical_text.specs.declared.positions.Position.TheVariants.{AsType}
+use Rattle.canonical_text.specs.Names.{path_written}
 use Rattle.print_laws.specs.Printed.{ArePrintable}
 use Rattle.print_laws.proofs.Leads.{lead, all_leads, word_follow, lifetime_follow, less_follow}
 use Rattle.print_laws.proofs.Fits.{Spells, Fits, fits_wide, less, exclamation, word_fits}
 use Rattle.print_laws.proofs.Bands.{all_of, is_word_kind, is_number_kind, is_lifetime_kind, is_segment_kind, is_sign_kind, nth, sign_text}
 use Rattle.print_laws.proofs.Spelt.{all_fronts, path_follow, arguments_follow, Spelt, spelt_wide}
-use Rattle.print_laws.proofs.NameTokens.{word_as_written, word_spelt, free_word_spelt, step_spelt, number_spelt, lifetime_spelt, segment_spelt, exclamation_spelt, less_spelt}
+use Rattle.print_laws.proofs.NameTokens.{word_as_written, word_spelt, step_spelt, number_spelt, lifetime_spelt, segment_spelt, exclamation_spelt, less_spelt}
 
 pub no_impl_word : (t : Lexeme) (more : List Lexeme) → ArePrintable (t ∷ more) → bytes_eq (codes "impl") t.text ≡ false
 no_impl_word t more r = not-true (bytes_eq (codes "impl") t.text) (and_parts (not (bytes_eq (codes "impl") t.text)) (not (class_of t == 1 && starts (inside class_of (117 ∷ [])) more)) r.1).0
@@ -26,22 +28,19 @@ pub word_token : (set : List ℕ) → all_of 1 set ≡ true → (t : Lexeme) →
 word_token set a t h more r = word_fits t (is_word_kind set t h a) r.0 (no_impl_word t more r)
 
 -- and so in names
-pub word_name : (set : List ℕ) → all_of 1 set ≡ true → (t : Lexeme) → has set (class_of t) ≡ true → (more : List Lexeme) → ArePrintable (t ∷ more) → Spelt word_follow (1 ∷ []) t.text (t ∷ [])
-word_name set a t h more r = word_spelt t (is_word_kind set t h a) r.0 (no_impl_word t more r)
+pub word_name : (p : Position) (set : List ℕ) → all_of 1 set ≡ true → (t : Lexeme) → has set (class_of t) ≡ true → (more : List Lexeme) → ArePrintable (t ∷ more) → Spelt p AsType word_follow (1 ∷ []) t.text (t ∷ [])
+word_name p set a t h more r = word_spelt p t (is_word_kind set t h a) r.0 (no_impl_word t more r)
 
-pub free_name : (set : List ℕ) → all_of 1 set ≡ true → (t : Lexeme) → has set (class_of t) ≡ true → (more : List Lexeme) → ArePrintable (t ∷ more) → is_reserved t.text ≡ false → Spelt path_follow (1 ∷ []) t.text (t ∷ [])
-free_name set a t h more r i = free_word_spelt t (is_word_kind set t h a) r.0 (no_impl_word t more r) i
-
-pub step_name : (set : List ℕ) → all_of 1 set ≡ true → (t : Lexeme) → has set (class_of t) ≡ true → (more : List Lexeme) → ArePrintable (t ∷ more) → Spelt path_follow (5 ∷ []) (codes "::" ++ t.text) (sign (codes "::") ∷ t ∷ [])
+pub step_name : (set : List ℕ) → all_of 1 set ≡ true → (t : Lexeme) → has set (class_of t) ≡ true → (more : List Lexeme) → ArePrintable (t ∷ more) → Spelt AsType AsType path_follow (5 ∷ []) (codes "::" ++ t.text) (sign (codes "::") ∷ t ∷ [])
 step_name set a t h more r = step_spelt t (is_word_kind set t h a) r.0 (no_impl_word t more r)
 
-pub number_name : (set : List ℕ) → all_of 2 set ≡ true → (t : Lexeme) → has set (class_of t) ≡ true → (more : List Lexeme) → ArePrintable (t ∷ more) → Spelt word_follow (1 ∷ []) t.text (t ∷ [])
+pub number_name : (set : List ℕ) → all_of 2 set ≡ true → (t : Lexeme) → has set (class_of t) ≡ true → (more : List Lexeme) → ArePrintable (t ∷ more) → Spelt AsType AsType word_follow (1 ∷ []) t.text (t ∷ [])
 number_name set a t h more r = number_spelt t (is_number_kind set t h a) r.0
 
-pub segment_name : (t : Lexeme) → has (43 ∷ []) (class_of t) ≡ true → (more : List Lexeme) → ArePrintable (t ∷ more) → Spelt all_fronts (6 ∷ []) t.text (t ∷ [])
-segment_name t h more r = segment_spelt t (is_segment_kind (43 ∷ []) t h refl) r.0
+pub segment_name : (p : Position) (t : Lexeme) → has (43 ∷ []) (class_of t) ≡ true → (more : List Lexeme) → ArePrintable (t ∷ more) → Spelt p AsType all_fronts (6 ∷ []) t.text (t ∷ [])
+segment_name p t h more r = segment_spelt p t (is_segment_kind (43 ∷ []) t h refl) r.0
 
-pub argument_name : (t : Lexeme) → has (35 ∷ 42 ∷ []) (class_of t) ≡ true → (more : List Lexeme) → ArePrintable (t ∷ more) → Spelt lifetime_follow (1 ∷ 3 ∷ []) t.text (t ∷ [])
+pub argument_name : (t : Lexeme) → has (35 ∷ 42 ∷ []) (class_of t) ≡ true → (more : List Lexeme) → ArePrintable (t ∷ more) → Spelt AsType AsType lifetime_follow (1 ∷ 3 ∷ []) t.text (t ∷ [])
 argument_name t h more r = elim (one_of 35 (class_of t) (42 ∷ []) h) [
   | inl i ↦ spelt_wide (number_spelt t (is_number_kind (35 ∷ []) t i refl) r.0) refl refl
   | inr i ↦ spelt_wide (lifetime_spelt t (is_lifetime_kind (42 ∷ []) t i refl) r.0) refl refl
@@ -65,8 +64,8 @@ sign_token n a l t h = let k = is_sign_kind (n ∷ []) t h a in (k, sign_text t 
 pub less_text : (t : Lexeme) → has (7 ∷ []) (class_of t) ≡ true → t.text ≡ codes "<"
 less_text t h = (sign_token 7 refl (omega arith) t h).1
 
-pub less_name : (t : Lexeme) → has (7 ∷ []) (class_of t) ≡ true → (more : List Lexeme) → ArePrintable (t ∷ more) → Spelt arguments_follow (6 ∷ []) t.text (t ∷ [])
-less_name t h more r = let k = sign_token 7 refl (omega arith) t h in less_spelt t k.1 (like less_follow (7 ∷ []) kind.Sign (codes "<") 0 t k.0 k.1 less)
+pub less_name : (p : Position) (t : Lexeme) → has (7 ∷ []) (class_of t) ≡ true → (more : List Lexeme) → ArePrintable (t ∷ more) → Spelt p AsType arguments_follow (6 ∷ []) t.text (t ∷ [])
+less_name p t h more r = let k = sign_token 7 refl (omega arith) t h in less_spelt p t k.1 (like less_follow (7 ∷ []) kind.Sign (codes "<") 0 t k.0 k.1 less)
 
 mark_token : (t : Lexeme) → has (17 ∷ []) (class_of t) ≡ true → (t.text ≡ codes "!") × Fits all_leads (7 ∷ []) t.text (t ∷ [])
 mark_token t h = let k = sign_token 17 refl (omega arith) t h in (k.1, like all_leads (7 ∷ []) kind.Sign (codes "!") 0 t k.0 k.1 exclamation)
@@ -78,18 +77,18 @@ plain_token t h more r = elim (one_of 17 (class_of t) type_names h) [
   | inr i ↦ fits_wide (word_token type_names refl t i more r) refl refl
 ]
 
-pub plain_name : (t : Lexeme) → has (17 ∷ type_names) (class_of t) ≡ true → (more : List Lexeme) → ArePrintable (t ∷ more) → Spelt word_follow (1 ∷ 7 ∷ []) t.text (t ∷ [])
+pub plain_name : (t : Lexeme) → has (17 ∷ type_names) (class_of t) ≡ true → (more : List Lexeme) → ArePrintable (t ∷ more) → Spelt AsType AsType word_follow (1 ∷ 7 ∷ []) t.text (t ∷ [])
 plain_name t h more r = elim (one_of 17 (class_of t) type_names h) [
   | inl i ↦ let m = mark_token t i in spelt_wide (exclamation_spelt t m.0 m.1) refl refl
-  | inr i ↦ spelt_wide (word_name type_names refl t i more r) refl refl
+  | inr i ↦ spelt_wide (word_name AsType type_names refl t i more r) refl refl
 ]
 
-mark_as_written : (text : List ℕ) → text ≡ codes "!" → path_written text ≡ text
+mark_as_written : (text : List ℕ) → text ≡ codes "!" → path_written AsType text ≡ text
 unfolding path_written
-mark_as_written text e = subst (λ x. path_written x ≡ x) (sym e) refl
+mark_as_written text e = subst (λ x. path_written AsType x ≡ x) (sym e) refl
 
-pub plain_as_written : (t : Lexeme) → has (17 ∷ type_names) (class_of t) ≡ true → (more : List Lexeme) → ArePrintable (t ∷ more) → path_written t.text ≡ t.text
+pub plain_as_written : (t : Lexeme) → has (17 ∷ type_names) (class_of t) ≡ true → (more : List Lexeme) → ArePrintable (t ∷ more) → path_written AsType t.text ≡ t.text
 plain_as_written t h more r = elim (one_of 17 (class_of t) type_names h) [
   | inl i ↦ mark_as_written t.text (mark_token t i).0
-  | inr i ↦ word_as_written t (is_word_kind type_names t i refl) r.0
+  | inr i ↦ word_as_written AsType t (is_word_kind type_names t i refl) r.0
 ]

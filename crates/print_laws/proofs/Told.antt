@@ -6,6 +6,7 @@ use Rattle.grammar_words.specs.Reading.{cons}
 use Rattle.grammar_words.specs.Classes.{has, inside, Tok, Past, Ended, Listed}
 use Rattle.grammar_words.proofs.Sets.{subset, apart}
 use Rattle.mir_grammar.specs.Lexemes.{Lexeme, class_of, sign}
+use Rattle.canonical_text.specs.declared.positions.Position.{Position}
 use Rattle.canonical_text.specs.Names.{path_written}
 use Rattle.print_laws.specs.Printed.{ArePrintable}
 use Rattle.print_laws.proofs.Leads.{all_leads}
@@ -33,7 +34,7 @@ pub telling_into : {A T : Type 0} {s l : List ℕ} {W : Part Lexeme A} {h : A �
 telling_into V w k = record { lexemes = k.lexemes; value = k.value; same = k.same; reads = λ y. w (k.lexemes ++ y) y k.value (k.reads y); fits = k.fits }
 
 -- where the very value is read, and the text is a name
-pub told_again : {A T : Type 0} {s l : List ℕ} {R W : Part Lexeme A} {f : A → List ℕ} (h : A → T) (g : T → List ℕ) → ((a : A) → path_written (f a) ≡ g (h a)) → Again s l R W f → Told (coarsely s) (coarsely l) R W h g
+pub told_again : {A T : Type 0} {here : Position} {s l : List ℕ} {R W : Part Lexeme A} {f : A → List ℕ} (h : A → T) (g : T → List ℕ) → ((a : A) → path_written here (f a) ≡ g (h a)) → Again here s l R W f → Told (coarsely s) (coarsely l) R W h g
 told_again h g e c = record {
   tell = λ ts rest a r p. let k = c.keep ts rest a r p in record { lexemes = k.lexemes; value = a; same = refl; reads = k.reads; fits = fits_text (e a) k.spelt.fits };
   left = λ ts rest a r p. (c.keep ts rest a r p).left;

@@ -11,6 +11,7 @@ use Rattle.mir_ir.specs.declared.types.IntTy.{IntTy}
 use Rattle.mir_ir.specs.Names.{is_int_named, name_of_int, all_ints, int_of_name}
 use Rattle.mir_grammar.specs.Names.{plain_type, int_or_name}
 use Rattle.mir_lex.proofs.Runs.{same_some}
+use Rattle.canonical_text.specs.declared.positions.Position.TheVariants.{AsType, Alone}
 use Rattle.canonical_text.specs.Names.{path_written}
 use Rattle.canonical_text.specs.Types.{comma_of_one, pointer_word, reference_word, type_text, with_commas}
 use Rattle.canonical_text.proofs.Texts.{level_text, type_text_out}
@@ -33,10 +34,10 @@ str_text = out_text ty.Str Ty-F.Str (search (rules, the_lemmas))
 pub int_text : (i : IntTy) → type_text (ty.Int i) ≡ name_of_int i
 int_text i = out_text (ty.Int i) (Ty-F.Int i) (search (rules, the_lemmas))
 
-pub path_name_text : (path : List ℕ) → type_text (ty.Named path) ≡ path_written path
+pub path_name_text : (path : List ℕ) → type_text (ty.Named path) ≡ path_written AsType path
 path_name_text path = out_text (ty.Named path) (Ty-F.Named path) (search (rules, the_lemmas))
 
-pub dyn_text : (path : List ℕ) → type_text (ty.Dyn path) ≡ codes "dyn " ++ path_written path
+pub dyn_text : (path : List ℕ) → type_text (ty.Dyn path) ≡ codes "dyn " ++ path_written Alone path
 dyn_text path = out_text (ty.Dyn path) (Ty-F.Dyn path) (search (rules, the_lemmas))
 
 pub box_text : (t : Ty) → type_text (ty.BoxOf t) ≡ codes "Box<" ++ type_text t ++ codes ">"
@@ -72,10 +73,10 @@ same_word : (word text : List ℕ) (t other : Ty) → type_text t ≡ word → t
 same_word word text t other e f true h = e ∙ (bytes_eq-Decides word text).0 h
 same_word word text t other e f false h = f
 
-int_word : (text : List ℕ) (o : Option IntTy) → path_written text ≡ text → int_of_name text ≡ o → type_text (int_or_name o text) ≡ text
+int_word : (text : List ℕ) (o : Option IntTy) → path_written AsType text ≡ text → int_of_name text ≡ o → type_text (int_or_name o text) ≡ text
 int_word text None w e = path_name_text text ∙ w
 int_word text (Some i) w e = int_text i ∙ int_found text all_ints i e
 
-pub plain_text : (text : List ℕ) → path_written text ≡ text → type_text (plain_type text) ≡ text
+pub plain_text : (text : List ℕ) → path_written AsType text ≡ text → type_text (plain_type text) ≡ text
 plain_text text w = same_word (codes "bool") text ty.Bool _ bool_text (same_word (codes "char") text ty.Char _ char_text (same_word (codes "!") text ty.Never _ never_text
     (same_word (codes "str") text ty.Str _ str_text (int_word text (int_of_name text) w refl) (bytes_eq (codes "str") text) refl) (bytes_eq (codes "!") text) refl) (bytes_eq (codes "char") text) refl) (bytes_eq (codes "bool") text) refl

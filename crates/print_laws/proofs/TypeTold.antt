@@ -6,7 +6,7 @@ use Rattle.std.proofs.lemmas.Bool.{both_ways, eqb-true}
 use Rattle.grammar_words.specs.Grammar.{Part, Then, Made, Each, starts}
 use Rattle.grammar_words.specs.Reading.{second}
 use Rattle.grammar_words.specs.Classes.{has, inside, Tok, Past, Perhaps_token, Listed}
-use Rattle.grammar_words.proofs.Sets.{subset, apart}
+use Rattle.grammar_words.proofs.Sets.{apart}
 use Rattle.mir_lex.specs.declared.token.TokenKind.TheVariants as kind
 use Rattle.std.proofs.lemmas.Slice.Eq.{bytes_eq-Decides}
 use Rattle.mir_ir.specs.declared.types.Ty.{Ty}
@@ -22,6 +22,7 @@ use Rattle.mir_grammar.specs.declared.named.Step.TheVariants.{StepWord, StepArgu
 use Rattle.mir_grammar.specs.Names.{path_text, named_text, box_or_name, plain_type, mut_where, pointer_word, steps_text, only_type, only_arguments, boxed_behind, boxed_type, to_path, to_keyed_path, to_mut_path, to_plain, to_array, to_ref, to_raw, to_dyn}
 use Rattle.mir_grammar.specs.Types.{Family, without, any_word, type_names, type_words, path_words, path_words_but_mut, AnyType, NotMut, BehindMut, ArgumentOf, Arguments, Segment, PathStep, KeyedSteps, FreeHead, FreePath, KeyedPath, PathFrom, PlainType, ArrayEnd, ArrayType, unmarked, marked, RefTarget, RefType, RawType, DynType}
 use Rattle.mir_lex.proofs.Runs.{same_some}
+use Rattle.canonical_text.specs.declared.positions.Position.TheVariants.{AsType, Alone}
 use Rattle.canonical_text.specs.Names.{path_written}
 use Rattle.canonical_text.specs.Types.{type_text}
 use Rattle.print_laws.specs.Printed.{ArePrintable}
@@ -29,7 +30,7 @@ use Rattle.print_laws.proofs.Leads.{all_leads, word_follow}
 use Rattle.print_laws.proofs.Fits as fits
 use Rattle.print_laws.proofs.Fits.{Fits, fits_join, fits_text, fits_wide}
 use Rattle.print_laws.proofs.NameTokens.{dyn_blank}
-use Rattle.print_laws.proofs.Reserved.{reserved}
+use Rattle.print_laws.proofs.Reserved.{AreKeys, type_keys}
 use Rattle.print_laws.proofs.Again.{again_past, past_token, past_colons}
 use Rattle.print_laws.proofs.Bands.{all_of, is_word_kind}
 use Rattle.print_laws.proofs.Tokens.{plain_token, plain_as_written}
@@ -161,14 +162,14 @@ raw_told {T} {U} p = told_made to_raw ty_of (λ x. ty.Raw x.0 x.1) type_text (λ
     (told_past_made (117 ∷ []) (T AnyType) (U AnyType) marked (told_made marked marked_ty (λ t. (true, t)) raw_text (λ n. refl) (λ t. refl) (told_past (117 ∷ []) (word (codes "mut")) mut_inside refl fits.mut_word p.any refl)))
     (told_past_made (116 ∷ []) (T AnyType) (U AnyType) unmarked (told_made unmarked marked_ty (λ t. (false, t)) raw_text (λ n. refl) (λ t. refl) (told_past (116 ∷ []) (word (codes "const")) const_inside refl fits.const_word p.any refl))) refl refl refl refl) refl)
 
-dyn_written : (path : List ℕ) → path_written (codes "dyn " ++ path) ≡ codes "dyn " ++ path_written path
+dyn_written : (path : List ℕ) → path_written AsType (codes "dyn " ++ path) ≡ codes "dyn " ++ path_written Alone path
 unfolding path_written
 dyn_written path = refl
 
 pub dyn_told : {T U : Family} → Retold T U → Told word_follow (1 ∷ []) (DynType T) (DynType U) ty_of type_text
 unfolding to_dyn
 dyn_told r = told_made to_dyn ty_of (λ t. t) type_text (λ n. refl) (λ t. refl) (told_again (λ (n : Named). ty.Dyn n.text) type_text (λ n. dyn_written n.text ∙ sym (text.dyn_text n.text))
-    (again_past (115 ∷ []) (word (codes "dyn")) dyn_inside refl dyn_blank (again_no_bound (free_path any_word refl refl r)) refl))
+    (again_past (115 ∷ []) (word (codes "dyn")) dyn_inside refl dyn_blank (again_no_bound (free_path Alone any_word refl refl r)) refl))
 
 -- mut before ::
 pub mut_path_told : {T U : Family} → Retold T U → Told word_follow (1 ∷ []) (Past class_of (117 ∷ []) (Made to_mut_path (KeyedSteps T))) (Past class_of (117 ∷ []) (Made to_mut_path (KeyedSteps U))) ty_of type_text
@@ -323,7 +324,7 @@ box_told U words h t k = record {
 
 -- A path is itself, or a box.
 
-plain_path : (v : Head × List Step) → boxed_type v.0 v.1 ≡ None → path_written (named_text (to_path v)) ≡ type_text (ty_of (to_path v))
+plain_path : (v : Head × List Step) → boxed_type v.0 v.1 ≡ None → path_written AsType (named_text (to_path v)) ≡ type_text (ty_of (to_path v))
 unfolding to_path
 plain_path v e = sym (ap (λ o. type_text (box_or_name o (path_text v.0 v.1))) e ∙ text.path_name_text (path_text v.0 v.1))
 
@@ -336,15 +337,15 @@ PathTold W n = Telling word_follow (1 ∷ 7 ∷ []) W ty_of (type_text (ty_of n)
 
 path_cases : {T U : Family} (words : List ℕ) → all_of 1 words ≡ true → apart words (12 ∷ []) ≡ true → has words 33 ≡ true → Retold T U → Printed T U → (ts rest mid : List Lexeme) (v : Head × List Step) → FreeHead words T ts v.0 mid → Each (PathStep T) mid v.1 rest
     → ArePrintable ts → (o : Option Ty) → boxed_type v.0 v.1 ≡ o → PathTold (FreePath words U) (to_path v)
-path_cases {T} {U} words a n h q p ts rest mid v i e r None b = let k = (free_path words a n q).keep ts rest (to_path v) (v, refl, (mid, i, e)) r in
+path_cases {T} {U} words a n h q p ts rest mid v i e r None b = let k = (free_path AsType words a n q).keep ts rest (to_path v) (v, refl, (mid, i, e)) r in
     record { lexemes = k.lexemes; value = to_path v; same = refl; reads = k.reads; fits = fits_text (plain_path v b) k.spelt.fits }
 path_cases {T} {U} words a n h q p ts rest mid v i e r (Some t) b = subst (λ x. Telling word_follow (1 ∷ 7 ∷ []) (FreePath words U) ty_of (type_text x) x) (boxed_path v t b)
-    (box_told U words h t (steps_told q p mid rest v.1 t e ((free_head words a n q).keep ts mid v.0 i r).left (ends_in v.0 v.1 t b)))
+    (box_told U words h t (steps_told q p mid rest v.1 t e ((free_head AsType words a n q).keep ts mid v.0 i r).left (ends_in v.0 v.1 t b)))
 
 free_told : {T U : Family} (words : List ℕ) → all_of 1 words ≡ true → apart words (12 ∷ []) ≡ true → has words 33 ≡ true → Retold T U → Printed T U → Told word_follow (1 ∷ 7 ∷ []) (FreePath words T) (FreePath words U) ty_of type_text
 free_told {T} {U} words a n h q p = record {
   tell = λ ts rest m r x. subst (PathTold (FreePath words U)) r.1 (path_cases words a n h q p ts rest r.2.0 r.0 r.2.1 r.2.2 x (boxed_type r.0.0 r.0.1) refl);
-  left = λ ts rest m r x. ((free_path words a n q).keep ts rest m r x).left;
+  left = λ ts rest m r x. ((free_path AsType words a n q).keep ts rest m r x).left;
 }
 
 no_such_word : (keys : List ℕ) (t : Lexeme) (w : List ℕ) → word_class w ≡ 33 → has keys 33 ≡ false → t.kind ≡ kind.Word → has keys (class_of t) ≡ true → (c : Bool) → bytes_eq w t.text ≡ c → bytes_eq w t.text ≡ false
@@ -357,26 +358,26 @@ key_boxed keys t steps a n h =
     let k = is_word_kind keys t h a in
     rw (no_such_word keys t (codes "Box") refl n k h (bytes_eq (codes "Box") t.text) refl) (rw (no_such_word keys t (codes "std") refl n k h (bytes_eq (codes "std") t.text) refl) refl)
 
-keyed_text : (keys : List ℕ) (v : Lexeme × List Step) → all_of 1 keys ≡ true → has keys 33 ≡ false → has keys (class_of v.0) ≡ true → path_written (named_text (to_keyed_path v)) ≡ type_text (ty_of (to_keyed_path v))
+keyed_text : (keys : List ℕ) (v : Lexeme × List Step) → all_of 1 keys ≡ true → has keys 33 ≡ false → has keys (class_of v.0) ≡ true → path_written AsType (named_text (to_keyed_path v)) ≡ type_text (ty_of (to_keyed_path v))
 unfolding to_keyed_path
 keyed_text keys v a n h = plain_path (HeadWord v.0.text v.0.start, v.1) (key_boxed keys v.0 v.1 a n h)
 
-keyed_told : {T U : Family} (keys : List ℕ) → subset keys reserved ≡ true → all_of 1 keys ≡ true → apart keys (12 ∷ []) ≡ true → has keys 33 ≡ false → Retold T U → Told word_follow (1 ∷ 7 ∷ []) (KeyedPath keys T) (KeyedPath keys U) ty_of type_text
+keyed_told : {T U : Family} (keys : List ℕ) → AreKeys AsType keys → all_of 1 keys ≡ true → apart keys (12 ∷ []) ≡ true → has keys 33 ≡ false → Retold T U → Told word_follow (1 ∷ 7 ∷ []) (KeyedPath keys T) (KeyedPath keys U) ty_of type_text
 unfolding inside
 keyed_told {T} {U} keys s a n h q = record {
-  tell = λ ts rest m r x. let k = (keyed_path keys s a n q).keep ts rest m r x in record {
+  tell = λ ts rest m r x. let k = (keyed_path AsType keys s a n q).keep ts rest m r x in record {
     lexemes = k.lexemes;
     value = m;
     same = refl;
     reads = k.reads;
-    fits = fits_text (ap (λ y. path_written (named_text y)) (sym r.1) ∙ keyed_text keys r.0 a h r.2.1.0 ∙ ap (λ y. type_text (ty_of y)) r.1) (fits_wide k.spelt.fits refl refl);
+    fits = fits_text (ap (λ y. path_written AsType (named_text y)) (sym r.1) ∙ keyed_text keys r.0 a h r.2.1.0 ∙ ap (λ y. type_text (ty_of y)) r.1) (fits_wide k.spelt.fits refl refl);
   };
-  left = λ ts rest m r x. ((keyed_path keys s a n q).keep ts rest m r x).left;
+  left = λ ts rest m r x. ((keyed_path AsType keys s a n q).keep ts rest m r x).left;
 }
 
 pub path_told : {T U : Family} (words : List ℕ) → all_of 1 words ≡ true → apart words (12 ∷ []) ≡ true → has words 33 ≡ true → Retold T U → Printed T U
     → Told word_follow (1 ∷ 7 ∷ []) (PathFrom type_words words T) (PathFrom type_words words U) ty_of type_text
-path_told words a n h q p = told_either word_follow (1 ∷ 7 ∷ []) (keyed_told type_words refl refl refl refl q) (free_told words a n h q p) refl refl refl refl
+path_told words a n h q p = told_either word_follow (1 ∷ 7 ∷ []) (keyed_told type_words type_keys refl refl refl q) (free_told words a n h q p) refl refl refl refl
 
 -- a path that does not begin with mut
 without_at : (x y n : ℕ) (ys : List ℕ) (b c : Bool) → has (x ∷ []) y ≡ b → (y == n) ≡ c → has (x ∷ []) n ≡ false → (has ys n ≡ true → has (without (x ∷ []) ys) n ≡ true) → (if c then true else has ys n) ≡ true

@@ -14,6 +14,7 @@ use Rattle.mir_grammar.specs.Lexemes.{Lexeme, class_of, sign, word}
 use Rattle.mir_grammar.specs.Types.{Family, AnyType, any_word, FreePath}
 use Rattle.mir_grammar.specs.Places.{to_local_id, locals}
 use Rattle.mir_grammar.specs.Functions.{to_declared, one_item, concat, to_items, Items, DeclaredPart, ItemPart, to_function, Parameters, Braces, BlockPart, Inside, FunctionPart}
+use Rattle.canonical_text.specs.declared.positions.Position.TheVariants.{Alone}
 use Rattle.canonical_text.specs.Names.{path_written}
 use Rattle.canonical_text.specs.Types.{type_text}
 use Rattle.canonical_text.specs.Places.{local_text}
@@ -200,7 +201,7 @@ arrow_fits : Fits all_leads (7 ∷ []) (codes " -> ") (sign (codes "->") ∷ [])
 arrow_fits = fits_join fits.fits_space (fits.spaced fits.arrow refl) refl
 
 abbrev pub parts_text : RawFunction → List ℕ
-parts_text f = codes "fn " ++ (path_written f.name.text ++ ((codes "(" ++ (parameters_text (map local_of f.parameters) ++ codes ")")) ++ (codes " -> " ++ rest_text f.result.ty (lets_of f.result.ty f.items) f.blocks)))
+parts_text f = codes "fn " ++ (path_written Alone f.name.text ++ ((codes "(" ++ (parameters_text (map local_of f.parameters) ++ codes ")")) ++ (codes " -> " ++ rest_text f.result.ty (lets_of f.result.ty f.items) f.blocks)))
 
 -- a reading of the text of a function
 pub record Reprinted (U : Family) (Q : Part Lexeme Placed) (V : Part Lexeme Items) (f : RawFunction) : Type 0 where
@@ -232,7 +233,7 @@ function_reads U Q V xs ys zs n ps v f g h k = (
   ),
 )
 
-reprinted : {U : Family} {Q : Part Lexeme Placed} {V : Part Lexeme Items} (n m : Named) (ps : List Declared) (ds : Items) (bs : List RawBlock) (xs : List Lexeme) → ((k : List Lexeme) → FreePath any_word U (xs ++ k) n k) → Fits word_follow (1 ∷ 7 ∷ []) (path_written n.text) xs
+reprinted : {U : Family} {Q : Part Lexeme Placed} {V : Part Lexeme Items} (n m : Named) (ps : List Declared) (ds : Items) (bs : List RawBlock) (xs : List Lexeme) → ((k : List Lexeme) → FreePath any_word U (xs ++ k) n k) → Fits word_follow (1 ∷ 7 ∷ []) (path_written Alone n.text) xs
     → Telling all_leads (7 ∷ []) (Parameters (U AnyType)) (map local_of) (codes "(" ++ (parameters_text (map local_of ps) ++ codes ")")) (map local_of ps) → Behind U Q V m.ty ds bs → Reprinted U Q V (to_function (n, (ps, (m, (ds, bs)))))
 unfolding to_function
 reprinted {U} {Q} {V} n m ps ds bs xs f x y b = let fit = fits_join fn_fits (fits_join x (fits_join y.fits (fits_join arrow_fits b.fits refl) refl) refl) refl in record {
@@ -254,7 +255,7 @@ unfolding inside
 function_told {T} {U} {P} {Q} q t p S V i ts rest f h r =
     let w = h.2 in let a = w.0.1 in let d = w.2.2 in let o = d.2 in let x = o.2 in let c = x.2.2 in let y = c.2 in let z = y.2.2 in
     let p1 = past_token (175 ∷ []) w.0.0 w.2.0 refl w.2.1.0 (subst ArePrintable w.2.1.1 r) in
-    let n = (free_path any_word refl refl q).keep w.2.0 d.0 a.0 d.1 p1 in
+    let n = (free_path Alone any_word refl refl q).keep w.2.0 d.0 a.0 d.1 p1 in
     let k = (parameters_told t).tell d.0 o.0 a.1.0 o.1 n.left in
     let p3 = (parameters_told t).left d.0 o.0 a.1.0 o.1 n.left in
     let p4 = past_token (20 ∷ []) x.0.0 x.2.0 refl x.2.1.0 (subst ArePrintable x.2.1.1 p3) in

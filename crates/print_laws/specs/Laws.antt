@@ -12,6 +12,7 @@ use Rattle.mir_grammar.specs.declared.named.Named.{Named}
 use Rattle.mir_grammar.specs.Functions.{TypeText, PathText, PlaceText, Text}
 use Rattle.mir_grammar.specs.declared.trees.Placed.{Placed}
 use Rattle.canonical_text.specs.Places.{place_text}
+use Rattle.canonical_text.specs.declared.positions.Position.TheVariants.{AsType, Alone}
 use Rattle.canonical_text.specs.Names.{path_written}
 use Rattle.canonical_text.specs.Types.{type_text}
 use Rattle.mir_lex.specs.declared.token.Token.{Token}
@@ -21,11 +22,11 @@ use Rattle.print_laws.specs.Printed.{Writes, ArePrintable}
 
 -- the canonical text of each type, as it stands in a longer path, is tokens that mean the same, nested no deeper
 abbrev pub EachTypeReadsAgain : Type 0
-EachTypeReadsAgain = (d : ℕ) (ts : List Lexeme) (n : Named) → TypeText d ts n [] → ArePrintable ts → (ls : List Lexeme) × Writes (path_written n.text) ls × TypeText d ls n []
+EachTypeReadsAgain = (d : ℕ) (ts : List Lexeme) (n : Named) → TypeText d ts n [] → ArePrintable ts → (ls : List Lexeme) × Writes (path_written AsType n.text) ls × TypeText d ls n []
 
 -- and so is that of each path
 abbrev pub EachPathReadsAgain : Type 0
-EachPathReadsAgain = (d : ℕ) (ts : List Lexeme) (n : Named) → PathText d ts n [] → ArePrintable ts → (ls : List Lexeme) × Writes (path_written n.text) ls × PathText d ls n []
+EachPathReadsAgain = (d : ℕ) (ts : List Lexeme) (n : Named) → PathText d ts n [] → ArePrintable ts → (ls : List Lexeme) × Writes (path_written Alone n.text) ls × PathText d ls n []
 
 -- a type that is printed on its own is tokens that mean this type, nested no deeper
 abbrev pub EachTypeIsPrinted : Type 0

@@ -1,4 +1,4 @@
-use Rattle.std.proofs.Common.{rules, arith, ◌-◌, ◌+◌, ◌≡◌, get_or, ℕ}
+use Rattle.std.proofs.Common.{rules, arith, ◌-◌}
 use Rattle.canonical_text.proofs.Openings.{openings_turn}
 use Rattle.canonical_text.proofs.places.push_openings.Goals as goal
 

@@ -1,7 +1,7 @@
 use Rattle.std.proofs.Common.{rules}
 use Rattle.mir_ir.specs.declared.types.Ty.TheOpen.{Ty-F}
 use Rattle.mir_ir.specs.declared.types.Ty.TheViews.{the_lemmas}
-use Rattle.canonical_text.proofs.Texts.{shown, shown_level}
+use Rattle.canonical_text.proofs.Texts.{shown_level}
 use Rattle.canonical_text.proofs.types.+types.Goals as goal
 
 pub push_type-returns-in_ok-push_text-in-Int : goal.push_type-returns-in_ok-push_text-in-Int
