@@ -1,0 +1,2 @@
+pub mod SeenKeys
+mod Examples
