@@ -1,0 +1,4 @@
+pub mod Texts
+pub mod Decimals
+pub mod Forms
+pub mod Elements
