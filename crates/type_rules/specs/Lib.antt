@@ -1,0 +1,14 @@
+pub mod Refusals
+pub mod Types
+pub mod Lookup
+pub mod Plain
+pub mod Places
+pub mod Operators
+pub mod Casts
+pub mod Values
+pub mod Operands
+pub mod Aggregates
+pub mod Rvalues
+pub mod Calls
+pub mod Code
+pub mod Entries
