@@ -18,3 +18,6 @@ mod reader;
 mod sets;
 
 pub use reader::text_at;
+
+#[cfg(test)]
+mod tests;
