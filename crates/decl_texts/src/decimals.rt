@@ -1,15 +1,14 @@
 ghost use Rattle.std.specs.Prelude.{◌≡◌, ◌^◌, ◌-◌, ◌==◌};
 ghost use Rattle.std.specs.List.{list_all};
 ghost use Rattle.mir_ir.specs.Integers.{width_of};
-ghost use Rattle.mir_lex.specs.Bytes.{first_is, is_digit, is_word_start, is_word_byte, is_char};
-ghost use Rattle.mir_lex.specs.Views.{is_index};
+ghost use Rattle.mir_lex.specs.Bytes.{first_is, is_word_byte};
 ghost use Rattle.mir_grammar.specs.Values.{plus_word, minus_word};
 ghost use Rattle.decl_texts.specs.Decimals.{is_decimal, greatest, deepest, int_word, unsigned_within, number_word, bool_word, decimal_word, value_word};
 ghost use Rattle.decl_texts.specs.Texts.{is_word};
 
 use crate::forms::Scalar;
 use mir_ir::IntTy;
-use mir_lex::{is_label, is_local, is_word_byte, number_within};
+use mir_lex::{begins_word, is_char, is_index, is_label, is_local, is_word_byte, number_within};
 use word_bits::Word;
 
 /// The most bytes of a word.
@@ -17,36 +16,6 @@ const MAX_WORD: usize = 256;
 
 /// The greatest number of a character.
 const MAX_CHAR: u128 = 0x10FFFF;
-
-fn is_digit(byte: u8) -> bool
-    ensures { result ≡ is_digit byte }
-{
-    b'0' <= byte && byte <= b'9'
-}
-
-fn are_digits(bytes: &[u8]) -> bool
-    ensures { result ≡ list_all is_digit bytes.now }
-{
-    let mut left = bytes;
-    while let [byte, rest @ ..] = left {
-        if !is_digit(*byte) {
-            return false;
-        }
-        left = rest;
-    }
-    true
-}
-
-/// Decimal digits without a leading zero.
-fn is_index(digits: &[u8]) -> bool
-    ensures { result ≡ is_index digits.now }
-{
-    match digits {
-        [] => false,
-        [digit] => is_digit(*digit),
-        [first, _second, ..] => *first != b'0' && are_digits(digits),
-    }
-}
 
 fn begins_with(first: u8, text: &[u8]) -> bool
     ensures { result ≡ first_is (λ d. d == first) text.now }
@@ -70,21 +39,6 @@ pub fn is_decimal(text: &[u8]) -> bool
                 is_index(text)
             }
         }
-    }
-}
-
-fn is_word_start(byte: u8) -> bool
-    ensures { result ≡ is_word_start byte }
-{
-    (b'a' <= byte && byte <= b'z') || (b'A' <= byte && byte <= b'Z') || byte == b'_'
-}
-
-fn begins_word(bytes: &[u8]) -> bool
-    ensures { result ≡ first_is is_word_start bytes.now }
-{
-    match bytes {
-        [] => false,
-        [byte, ..] => is_word_start(*byte),
     }
 }
 
@@ -202,12 +156,6 @@ fn int_word(int: IntTy, text: &[u8]) -> Option<Word>
             }
         }
     }
-}
-
-fn is_char(code: u128) -> bool
-    ensures { result ≡ is_char code }
-{
-    code < 0xD800 || (0xE000 <= code && code <= MAX_CHAR)
 }
 
 /// The number that a decimal text without a minus writes, where it is at most `most`.

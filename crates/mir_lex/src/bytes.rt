@@ -92,6 +92,7 @@ pub fn goes_on(bytes: &[u8]) -> bool
     }
 }
 
+/// A letter or `_` stands at the front: what a word begins with.
 pub fn begins_word(bytes: &[u8]) -> bool
     ensures { result ≡ first_is is_word_start bytes.now }
 {

@@ -61,7 +61,7 @@ pub fn scalar_len(bytes: &[u8]) -> Option<usize>
     }
 }
 
-/// The number of a char.
+/// The number of a char: up to 10FFFF in hexadecimal, but no surrogate.
 pub fn is_char(code: u128) -> bool
     ensures { result ≡ is_char code }
 {

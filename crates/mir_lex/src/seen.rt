@@ -13,7 +13,7 @@ const MAX_NUMBER: u32 = 4095;
 const MAX_CHAR: u128 = 0x10FFFF;
 
 /// Decimal digits without a leading zero.
-fn is_index(digits: &[u8]) -> bool
+pub fn is_index(digits: &[u8]) -> bool
     ensures { result ≡ is_index digits.now }
 {
     match digits {
