@@ -1,0 +1,5 @@
+pub mod Labelled
+pub mod Fields
+pub mod Variants
+pub mod Enums
+pub mod Types
