@@ -14,6 +14,3 @@ mod tests_of_words;
 
 pub use bit_gates::{Gate, Gates, InputBit};
 pub use terms_to_gates::blast;
-
-#[cfg(test)]
-mod tests;

@@ -22,8 +22,4 @@ pub use net::Net;
 pub use products::{Division, divide, mask, multiply};
 pub use shifts::{shift_down, shift_up};
 pub use sums::{Sum, add, negate, subtract};
-
-#[cfg(test)]
-mod tests;
-
 pub use words::{BitOp, bitwise, choose_words, complement, copies, equal, less};

@@ -18,6 +18,3 @@ mod reader;
 mod sets;
 
 pub use reader::text_at;
-
-#[cfg(test)]
-mod tests;

@@ -13,6 +13,3 @@ mod types;
 
 pub use functions::functions_text;
 pub use types::type_text;
-
-#[cfg(test)]
-mod tests;

@@ -4,6 +4,3 @@
 mod form;
 
 pub use form::clauses;
-
-#[cfg(test)]
-mod tests;

@@ -6,6 +6,3 @@ mod moves;
 mod trimming;
 
 pub use trimming::{Trimmed, trim};
-
-#[cfg(test)]
-mod tests;

@@ -5,6 +5,3 @@
 mod stop;
 
 pub use stop::{Stop, Why, expect_end, stop_before};
-
-#[cfg(test)]
-mod tests;

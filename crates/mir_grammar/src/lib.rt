@@ -14,6 +14,3 @@ pub use named::{Argument, Head, Named, Step};
 pub use trees::{
     ArrayTail, Declared, Ending, PathTail, Placed, RawBlock, RawFunction, Stepped, Target,
 };
-
-#[cfg(test)]
-mod tests;

@@ -17,6 +17,3 @@ pub use tree::{
     Rvalue, Statement, Terminator,
 };
 pub use types::{IntTy, Ty};
-
-#[cfg(test)]
-mod tests;

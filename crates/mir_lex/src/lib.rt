@@ -26,6 +26,3 @@ pub use seen::{
     between, capped_number, character_value, digits_of, is_index, is_label, is_local, suffix_of,
 };
 pub use token::{Token, TokenKind};
-
-#[cfg(test)]
-mod tests;

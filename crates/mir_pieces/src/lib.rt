@@ -25,6 +25,3 @@ pub use sets::{
 pub use type_reading::{Read, impl_step, is_formed, plain, word_step, written_argument};
 pub use types::{to_dyn, to_plain, to_qualified, to_raw, to_ref, to_slice, to_tuple};
 pub use want::{Want, firsts};
-
-#[cfg(test)]
-mod tests;

@@ -4,6 +4,3 @@
 mod printed;
 
 pub use printed::print;
-
-#[cfg(test)]
-mod tests;

@@ -1,4 +1,4 @@
--- What holds of everything that a declaration file says.
+-- Well-made declarations: what everything that a declaration file says is to keep.
 use Rattle.std.specs.Prelude.{◌≡◌, ℕ, ◌≤◌, ◌^◌, Bool, true, false, ◌&&◌, ◌||◌, ◌==◌, bytes_eq, List, Option, Some, None, All, length}
 use Rattle.word_bits.specs.declared.word.Word.{Word}
 use Rattle.mir_ir.specs.declared.types.IntTy.{IntTy}

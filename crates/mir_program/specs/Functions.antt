@@ -1,4 +1,4 @@
--- What holds of every function that a text means.
+-- Well-made functions: what each function that a text means is to keep.
 use Rattle.std.specs.Prelude.{◌≡◌, ℕ, ◌<◌, ◌≤◌, Bool, ◌==◌, List, [], ◌∷◌, ◌++◌, All, flat_map, length}
 use Rattle.mir_ir.specs.declared.tree.Block.{Block}
 use Rattle.mir_ir.specs.declared.tree.Constant.{Constant}

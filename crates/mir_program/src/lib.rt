@@ -4,6 +4,3 @@
 mod program;
 
 pub use program::Program;
-
-#[cfg(test)]
-mod tests;

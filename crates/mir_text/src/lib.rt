@@ -16,6 +16,3 @@ pub use mir_lex::{LexFault, MAX_TEXT};
 pub use parts::{read_path, read_place, read_type};
 pub use raw_functions::Limit;
 pub use text::parse;
-
-#[cfg(test)]
-mod tests;

@@ -12,6 +12,3 @@ mod words;
 pub use blocks::{BlockRef, Region};
 pub use clause_list::Clauses;
 pub use line_log::Log;
-
-#[cfg(test)]
-mod tests;

@@ -16,6 +16,3 @@ mod trail;
 mod watching;
 
 pub use solver::{Effort, SatAnswer, solve};
-
-#[cfg(test)]
-mod tests;

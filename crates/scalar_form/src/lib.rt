@@ -20,6 +20,3 @@ pub use look::{block_of, blocks_end, local_kind, locals_end};
 pub use operators::{are_operands, operator_value};
 pub use step::{State, Step, store, take_step};
 pub use values::{is_signed_operand, kind_of_operand, word_of_constant};
-
-#[cfg(test)]
-mod tests;

@@ -10,8 +10,6 @@ mod rewrite;
 mod simpler;
 mod term;
 mod terms;
-#[cfg(test)]
-mod tests;
 
 pub use term::{Term, TermId, TermOp};
 pub use terms::Terms;

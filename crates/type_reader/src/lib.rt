@@ -4,8 +4,6 @@
 
 mod leaves;
 mod reader;
-#[cfg(test)]
-mod tests;
 mod wrapper;
 
 pub use reader::{free_path_at, path_from_at, type_at};

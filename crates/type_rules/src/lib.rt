@@ -4,8 +4,6 @@
 mod casts;
 mod operators;
 mod refusal;
-#[cfg(test)]
-mod tests;
 mod types;
 mod values;
 

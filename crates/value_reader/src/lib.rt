@@ -15,6 +15,3 @@ pub use fields::fields_at;
 pub use operands::{operand_at, operands_at};
 pub use places::place;
 pub use values::{formed_value_at, value_path_at};
-
-#[cfg(test)]
-mod tests;

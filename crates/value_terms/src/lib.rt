@@ -10,6 +10,3 @@ pub use made::{bit, both, but_not, choose, either, equals, input, inverse};
 pub use operators::{OpTerms, operator_terms};
 pub use rvalues::{ValueTerms, rvalue_terms};
 pub use slots::{Slot, known, read, slot_at};
-
-#[cfg(test)]
-mod tests;

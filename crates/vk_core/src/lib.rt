@@ -13,6 +13,3 @@ pub use ids::{BlockId, FnId, LocalId, TraitId, TyId, UnitId, VtId};
 pub use memory::NoMemory;
 pub use name::Name;
 pub use text_place::TextPlace;
-
-#[cfg(test)]
-mod tests;

@@ -4,6 +4,3 @@
 mod lists;
 
 pub use lists::{Watch, WatchLists};
-
-#[cfg(test)]
-mod tests;

@@ -1,0 +1,40 @@
+ghost use Rattle.std.specs.Prelude.{◌≡◌, ◌<◌, ◌^◌};
+
+use std::test::Fail;
+use sym_terms::{Term, TermOp, Terms};
+use word_bits::Word;
+
+/// A constant of 64 bits.
+fn constant(value: u128) -> Term
+    requires { value < 2 ^ 64 }
+    ensures { result ≡ Term.Constant (record { width = 64; value = value }) }
+{
+    Term::Constant(Word { width: 64, value })
+}
+
+#[test]
+fn terms_are_shared_and_folded(rt: HostRuntime) -> Result<(), Fail> {
+    let mut terms = Terms::new(rt.alloc());
+    let x = terms.insert(Term::Input {
+        number: 0,
+        width: 64,
+    })?;
+    let two = terms.insert(constant(2))?;
+    let same = terms.insert(constant(2))?;
+    assert_eq!(rt; two, same);
+    assert_eq!(rt; terms.len(), 2);
+    assert_eq!(rt; terms.width(x), 64);
+    let sum = terms.insert(Term::Apply {
+        op: TermOp::Add,
+        a: two,
+        b: two,
+    })?;
+    assert_eq!(rt; terms.term(sum), constant(4));
+    let none = terms.insert(Term::Apply {
+        op: TermOp::Xor,
+        a: x,
+        b: x,
+    })?;
+    assert_eq!(rt; terms.term(none), constant(0));
+    Ok(())
+}

@@ -1,0 +1,6 @@
+use Rattle.std.proofs.Common.{arith}
+use Rattle.type_layouts.proofs.RankLaws.{all_ordered}
+use Rattle.type_layouts.proofs.numbering.are_ordered.Goals as goal
+
+pub returns : goal.returns
+returns c = all_ordered c.args.outlines.now c.args.ranks.now c.loop-place.place (omega arith) c.loop-place.invariant

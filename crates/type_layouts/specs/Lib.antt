@@ -1,0 +1,10 @@
+pub mod Entries
+pub mod Extents
+pub mod Inside
+pub mod Levels
+pub mod Marks
+pub mod Outlines
+pub mod Parts
+pub mod Ranks
+pub mod Recursion
+pub mod Rows
