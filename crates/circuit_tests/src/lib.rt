@@ -1,6 +1,7 @@
 //! Tests of the crates on terms, circuits, clauses and the solver.
 #![tactic(auto)]
 
+mod constants;
 #[cfg(test)]
 mod of_bit_blast;
 #[cfg(test)]
@@ -17,3 +18,5 @@ mod of_sat_core;
 mod of_sym_terms;
 #[cfg(test)]
 mod of_watch_lists;
+
+pub use constants::constant;

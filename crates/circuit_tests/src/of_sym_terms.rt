@@ -1,16 +1,6 @@
-ghost use Rattle.std.specs.Prelude.{◌≡◌, ◌<◌, ◌^◌};
-
+use crate::constants::constant;
 use std::test::Fail;
 use sym_terms::{Term, TermOp, Terms};
-use word_bits::Word;
-
-/// A constant of 64 bits.
-fn constant(value: u128) -> Term
-    requires { value < 2 ^ 64 }
-    ensures { result ≡ Term.Constant (record { width = 64; value = value }) }
-{
-    Term::Constant(Word { width: 64, value })
-}
 
 #[test]
 fn terms_are_shared_and_folded(rt: HostRuntime) -> Result<(), Fail> {

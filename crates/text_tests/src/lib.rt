@@ -21,3 +21,6 @@ mod of_mir_text;
 mod of_type_reader;
 #[cfg(test)]
 mod of_value_reader;
+mod texts;
+
+pub use texts::lexed;

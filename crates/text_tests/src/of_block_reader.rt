@@ -1,22 +1,12 @@
+use crate::texts::lexed;
 use block_reader::text_at;
 use grammar_words::{Stop, Why};
 use mir_grammar::{Ending, RawBlock, RawFunction, Target};
 use mir_ir::Terminator;
-use mir_lex::{MAX_TEXT, tokens};
-use mir_pieces::{Piece, pieces};
+use mir_pieces::Piece;
 use sqlite_items::Items;
 use std::alloc::Global;
 use std::test::Fail;
-
-/// The tokens of a text.
-fn lexed<'a>(alloc: Global, text: &'a [u8]) -> Result<Vec<Piece<'a>>, Fail> {
-    if text.len() > MAX_TEXT {
-        return Err("a long text".into());
-    }
-    let found = tokens(alloc, text)?;
-    let lexed = pieces(alloc, text, found.as_slice())?;
-    Ok(lexed)
-}
 
 /// A name for a terminator, and a block that it goes to.
 fn settled(terminator: &Terminator) -> (&'static str, u32) {

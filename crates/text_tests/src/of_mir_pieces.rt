@@ -1,15 +1,14 @@
+use crate::texts::lexed;
 use mir_grammar::{Argument, Head, Named, Step};
 use mir_ir::{IntTy, Ty};
-use mir_lex::tokens;
-use mir_pieces::{pieces, to_path};
+use mir_pieces::to_path;
 use sqlite_items::Items;
 use std::test::Fail;
 
 #[test]
 fn tokens_have_their_classes(rt: HostRuntime) -> Result<(), Fail> {
     let source = b"&mut _0 _12 bb3 u8 name 7 7_u8 200_i8 'a'".as_slice();
-    let found = tokens(rt.alloc(), source)?;
-    let pieces = pieces(rt.alloc(), source, found.as_slice())?;
+    let pieces = lexed(rt.alloc(), source)?;
     let mut at = 0;
     for class in [15, 117, 30, 31, 32, 108, 33, 35, 37, 39, 41] {
         let piece = pieces.get(at).ok_or("too few tokens")?;

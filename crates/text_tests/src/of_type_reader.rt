@@ -1,21 +1,11 @@
+use crate::texts::lexed;
 use grammar_words::{Stop, Why};
 use mir_grammar::Named;
 use mir_ir::Ty;
-use mir_lex::{MAX_TEXT, tokens};
-use mir_pieces::{ANY_WORD, PATH_WORDS, Piece, TYPE_WORDS, Want, pieces};
+use mir_pieces::{ANY_WORD, PATH_WORDS, Piece, TYPE_WORDS, Want};
 use std::alloc::Global;
 use std::test::Fail;
 use type_reader::{free_path_at, path_from_at, type_at};
-
-/// The tokens of a text.
-fn lexed<'a>(alloc: Global, text: &'a [u8]) -> Result<Vec<Piece<'a>>, Fail> {
-    if text.len() > MAX_TEXT {
-        return Err("a long text".into());
-    }
-    let found = tokens(alloc, text)?;
-    let lexed = pieces(alloc, text, found.as_slice())?;
-    Ok(lexed)
-}
 
 /// A name for what a type is made of, and a number in it.
 fn kind_of(ty: &Ty) -> (&'static str, u128) {

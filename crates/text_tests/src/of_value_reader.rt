@@ -1,22 +1,12 @@
+use crate::texts::lexed;
 use grammar_words::{Stop, Why};
 use mir_grammar::{Limited, Named, Placed};
 use mir_ir::{Constant, Operand, PlaceExpr, Projection, Rvalue, Steps};
-use mir_lex::{MAX_TEXT, tokens};
-use mir_pieces::{Piece, pieces};
+use mir_pieces::Piece;
 use sqlite_items::Items;
 use std::alloc::Global;
 use std::test::Fail;
 use value_reader::{fields_at, formed_value_at, operand_at, operands_at, place, value_path_at};
-
-/// The tokens of a text.
-fn lexed<'a>(alloc: Global, text: &'a [u8]) -> Result<Vec<Piece<'a>>, Fail> {
-    if text.len() > MAX_TEXT {
-        return Err("a long text".into());
-    }
-    let found = tokens(alloc, text)?;
-    let lexed = pieces(alloc, text, found.as_slice())?;
-    Ok(lexed)
-}
 
 /// A name for a step, and a number in it.
 fn step_of(step: &Projection) -> (&'static str, u128) {

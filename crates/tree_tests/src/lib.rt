@@ -13,3 +13,6 @@ mod of_type_rules;
 mod of_value_terms;
 #[cfg(test)]
 mod of_vk_core;
+mod types;
+
+pub use types::{bytes, raw};

@@ -1,5 +1,6 @@
+use crate::types::{bytes, raw};
 use mir_ir::{BinaryOp, CastKind, IntTy, Ty};
-use sqlite_items::{Boxed, Items};
+use sqlite_items::Items;
 use std::alloc::Global;
 use std::test::Fail;
 use type_rules::{Scalar, ValueTy, binary_type, is_cast, neg_type, not_type};
@@ -44,17 +45,6 @@ fn negations_take_signs_or_bits(rt: HostRuntime) {
     assert!(rt; neg_type(Some(Scalar::Int(IntTy::U8))).is_none());
     assert!(rt; not_type(Some(Scalar::Bool)).is_some());
     assert!(rt; not_type(Some(Scalar::Char)).is_none());
-}
-
-fn raw(alloc: Global, mutable: bool, target: Ty) -> Result<Ty, NoMemory> {
-    let target = Boxed::new(alloc, target)?;
-    Ok(Ty::Raw { mutable, target })
-}
-
-/// `[u8]`
-fn bytes(alloc: Global) -> Result<Ty, NoMemory> {
-    let item = Boxed::new(alloc, Ty::Int(IntTy::U8))?;
-    Ok(Ty::Slice(item))
 }
 
 /// Whether a cast of the kind leads from a raw pointer to the one to a raw pointer to the other.

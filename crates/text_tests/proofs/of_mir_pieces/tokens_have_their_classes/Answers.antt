@@ -1,5 +1,0 @@
-use Rattle.mir_pieces.proofs.Small.{are_slices}
-use Rattle.text_tests.proofs.of_mir_pieces.tokens_have_their_classes.Goals as goal
-
-pub pieces-requires : goal.pieces-requires
-pieces-requires g c = are_slices _ _ _ c.in_ok-found.ensures c.as_slice.ensures
