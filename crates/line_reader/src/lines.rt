@@ -4,6 +4,7 @@ ghost use Rattle.grammar_words.specs.Reading.{made};
 ghost use Rattle.grammar_words.specs.Classes.{bare, ended, inside, tok};
 ghost use Rattle.grammar_words.specs.Coded.{counted};
 ghost use Rattle.mir_grammar.specs.Lexemes.{class_of};
+ghost use Rattle.mir_grammar.specs.Places.{long_name};
 ghost use Rattle.mir_grammar.specs.Types.{colons};
 ghost use Rattle.mir_grammar.specs.Values.{formed_value_firsts, value_words};
 ghost use Rattle.mir_grammar.specs.Blocks.{to_assign, to_call, to_assign_line, value_line_at, assign_line_at, word_statement_at, word_terminator_at, resumed_at, line_at, cleanup_line_at};
@@ -147,19 +148,34 @@ fn to_assign(placed: Placed, value: Limited<Rvalue>) -> Kept
     }
 }
 
+/// What a path calls.
+fn callee_of(alloc: Global, path: Named) -> Result<Limited<Callee>, NoMemory>
+    ensures { IfOk result (λ callee. (callee.value.path ≡ path.text) × (callee.value.argument ≡ path.argument) × (callee.passed ≡ long_name path.is_long)) }
+{
+    let Named {
+        text,
+        argument,
+        is_long,
+        ..
+    } = path;
+    let path = Name::from_bytes(alloc, text.as_slice())?;
+    Ok(Limited {
+        value: Callee { path, argument },
+        passed: Passed::of_name(is_long),
+    })
+}
+
 #[tactic(auto, unfolding(mir_grammar::specs::Blocks::to_call))]
 fn to_call(alloc: Global, placed: Placed, called: Called) -> Result<EndingAt, NoMemory>
     ensures { IfOk result (λ ending. ending ≡ to_call (placed, called)) }
 {
-    let Placed { place, passed } = placed;
-    let (named, (operands, target)) = called;
-    let path = Name::from_bytes(alloc, named.text.as_slice())?;
-    let here = passed.both(Passed::of_name(named.is_long));
+    let (path, (operands, target)) = called;
+    let callee = callee_of(alloc, path)?;
+    let here = placed.passed.both(callee.passed);
     let passed = here.both(all_passed(operands.as_slice()).both(target.passed));
     let arguments = values_of(alloc, operands)?;
-    let Named { argument, .. } = named;
     Ok(Limited {
-        value: Ending::Calling(place, Callee { path, argument }, arguments, target.value),
+        value: Ending::Calling(placed.place, callee.value, arguments, target.value),
         passed,
     })
 }

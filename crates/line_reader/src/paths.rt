@@ -4,6 +4,7 @@ ghost use Rattle.grammar_words.specs.Classes.{ended};
 ghost use Rattle.grammar_words.specs.Coded.{counted};
 ghost use Rattle.mir_grammar.specs.Lexemes.{class_of};
 ghost use Rattle.mir_grammar.specs.declared.trees.PathTail.TheVariants.{FieldTail};
+ghost use Rattle.mir_grammar.specs.Places.{long_name};
 ghost use Rattle.mir_grammar.specs.Values.{to_path_unit, to_path_tuple, to_path_fields};
 ghost use Rattle.mir_grammar.specs.Blocks.{to_path_line};
 ghost use Rattle.mir_pieces.specs.Views.{read_view};
@@ -138,33 +139,42 @@ fn path_rest<'t, 'a>(
     }
 }
 
-#[tactic(auto, unfolding(mir_grammar::specs::Values::to_path_unit))]
-fn to_path_unit(alloc: Global, path: &Named) -> Result<Limited<Rvalue>, NoMemory>
-    ensures { IfOk result (λ value. value ≡ to_path_unit path.now) }
+/// The text of a path as a name.
+fn name_of(alloc: Global, path: Named) -> Result<Limited<Name>, NoMemory>
+    ensures { IfOk result (λ name. (name.value ≡ path.text) × (name.passed ≡ long_name path.is_long)) }
 {
-    let name = Name::from_bytes(alloc, path.text.as_slice())?;
+    let passed = Passed::of_name(path.is_long);
+    let value = Name::from_bytes(alloc, path.text.as_slice())?;
+    Ok(Limited { value, passed })
+}
+
+#[tactic(auto, unfolding(mir_grammar::specs::Values::to_path_unit))]
+fn to_path_unit(alloc: Global, path: Named) -> Result<Limited<Rvalue>, NoMemory>
+    ensures { IfOk result (λ value. value ≡ to_path_unit path) }
+{
+    let Limited { value, passed } = name_of(alloc, path)?;
     Ok(Limited {
-        value: Rvalue::PathUnit(name),
-        passed: Passed::of_name(path.is_long),
+        value: Rvalue::PathUnit(value),
+        passed,
     })
 }
 
 #[tactic(auto, unfolding(mir_grammar::specs::Values::to_path_tuple))]
 fn to_path_tuple(
     alloc: Global,
-    path: &Named,
+    path: Named,
     operands: Items<Limited<Operand>>,
 ) -> Result<Limited<Rvalue>, NoMemory>
-    ensures { IfOk result (λ value. value ≡ to_path_tuple (path.now, operands)) }
+    ensures { IfOk result (λ value. value ≡ to_path_tuple (path, operands)) }
 {
-    let name = Name::from_bytes(alloc, path.text.as_slice())?;
-    let passed = Passed::of_name(path.is_long).both(all_passed(operands.as_slice()));
+    let Limited {
+        value: path,
+        passed,
+    } = name_of(alloc, path)?;
+    let passed = passed.both(all_passed(operands.as_slice()));
     let operands = values_of(alloc, operands)?;
     Ok(Limited {
-        value: Rvalue::PathTuple {
-            path: name,
-            operands,
-        },
+        value: Rvalue::PathTuple { path, operands },
         passed,
     })
 }
@@ -172,16 +182,19 @@ fn to_path_tuple(
 #[tactic(auto, unfolding(mir_grammar::specs::Values::to_path_fields))]
 fn to_path_fields(
     alloc: Global,
-    path: &Named,
+    path: Named,
     fields: Items<Limited<NamedOperand>>,
 ) -> Result<Limited<Rvalue>, NoMemory>
-    ensures { IfOk result (λ value. value ≡ to_path_fields (path.now, fields)) }
+    ensures { IfOk result (λ value. value ≡ to_path_fields (path, fields)) }
 {
-    let name = Name::from_bytes(alloc, path.text.as_slice())?;
-    let passed = Passed::of_name(path.is_long).both(all_passed(fields.as_slice()));
+    let Limited {
+        value: path,
+        passed,
+    } = name_of(alloc, path)?;
+    let passed = passed.both(all_passed(fields.as_slice()));
     let fields = values_of(alloc, fields)?;
     Ok(Limited {
-        value: Rvalue::PathFields { path: name, fields },
+        value: Rvalue::PathFields { path, fields },
         passed,
     })
 }
@@ -196,16 +209,16 @@ fn to_path_line(
 {
     match tail {
         PathTail::UnitTail => {
-            let value = to_path_unit(alloc, &path)?;
+            let value = to_path_unit(alloc, path)?;
             Ok(Next::More(value))
         }
         PathTail::FieldTail(fields) => {
-            let value = to_path_fields(alloc, &path, fields)?;
+            let value = to_path_fields(alloc, path, fields)?;
             Ok(Next::More(value))
         }
         PathTail::OperandTail(operands, end) => match end {
             None => {
-                let value = to_path_tuple(alloc, &path, operands)?;
+                let value = to_path_tuple(alloc, path, operands)?;
                 Ok(Next::More(value))
             }
             Some(target) => Ok(Next::Last((path, (operands, target)))),
