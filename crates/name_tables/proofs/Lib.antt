@@ -1,0 +1,5 @@
+pub mod Finding
+pub mod Walks
+pub mod TraitForms
+pub mod PlainForms
+pub mod PlainLaws
