@@ -1,0 +1,3 @@
+pub mod Counts
+pub mod Utf8
+mod Examples

@@ -1,0 +1,16 @@
+//! Tests of the crates that read the declaration file.
+#![tactic(auto)]
+
+#[cfg(test)]
+mod of_decl_file;
+#[cfg(test)]
+mod of_decl_texts;
+#[cfg(test)]
+mod of_decl_tree;
+#[cfg(test)]
+mod of_decl_types;
+#[cfg(test)]
+mod of_part_texts;
+mod trees;
+
+pub use trees::{is_fault, is_read, plain, tree_of};
