@@ -1,0 +1,12 @@
+pub mod BlocksMade
+pub mod ConstantsTake
+pub mod FunctionsMade
+pub mod LocalsMade
+pub mod PlacesTake
+pub mod StatementsTake
+pub mod Takes
+pub mod TextTakes
+pub mod TypeCounts
+pub mod TypesTake
+pub mod ValuesTake
+pub mod WellMade
