@@ -1,0 +1,14 @@
+use Rattle.std.proofs.Common.{◌≡◌, ◌-◌, ◌&&◌, drop, length}
+use Rattle.type_rules.specs.Lookup.{field_types}
+use Rattle.type_rules.specs.Operands.{operand_type}
+use Rattle.type_rules.specs.Types.{same_types}
+use Rattle.code_types.specs.Lists.{operands_same}
+use Rattle.code_types.proofs.ListLaws.{tested}
+use Rattle.code_types.proofs.lists.operands_are_fields.Given as goal
+
+abbrev pub invariant-loop-place : goal.invariant-loop-place
+invariant-loop-place l =
+    tested (operand_type l.declared l.body) (λ ts. l.same && same_types ts (drop l.place (field_types l.fields))) (drop l.place l.operands) ≡ operands_same l.declared l.body l.operands (field_types l.fields)
+
+abbrev pub decreases-loop-place : goal.decreases-loop-place
+decreases-loop-place l = length l.operands - l.place

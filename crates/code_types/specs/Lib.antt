@@ -1,0 +1,4 @@
+pub mod Forms
+pub mod Lists
+pub mod Made
+pub mod Views
