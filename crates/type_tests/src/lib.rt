@@ -1,0 +1,5 @@
+//! Tests of the crates that find the types of programs.
+#![tactic(auto)]
+
+#[cfg(test)]
+mod of_entry_types;
