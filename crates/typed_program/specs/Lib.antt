@@ -1,0 +1,9 @@
+pub mod Filed
+pub mod Files
+pub mod Hashes
+pub mod Inside
+pub mod Lookups
+pub mod Numbers
+pub mod Places
+pub mod Rows
+pub mod WellTyped
