@@ -1,8 +1,13 @@
 //! Tests of the crates that read the declaration file.
 #![tactic(auto)]
 
+mod joining;
+#[cfg(test)]
+mod of_decl_counts;
 #[cfg(test)]
 mod of_decl_file;
+#[cfg(test)]
+mod of_decl_laws;
 #[cfg(test)]
 mod of_decl_texts;
 #[cfg(test)]
@@ -13,4 +18,5 @@ mod of_decl_types;
 mod of_part_texts;
 mod trees;
 
+pub use joining::alone;
 pub use trees::{is_fault, is_read, plain, tree_of};

@@ -1,0 +1,10 @@
+pub mod Outcomes
+pub mod Lists
+pub mod Digits
+pub mod Values
+pub mod FieldsMade
+pub mod EnumsMade
+pub mod TypesMade
+pub mod TablesMade
+pub mod FileMade
+pub mod Needed
