@@ -16,8 +16,7 @@ use Rattle.form_ir.specs.declared.tree.Terminator.TheVariants as terminator
 use Rattle.form_ir.specs.declared.kinds.ValueKind.TheVariants as kind
 use Rattle.form_ir.specs.Builtins.{builtin_of}
 use Rattle.form_ir.specs.Look.{block_of, local_kind}
-use Rattle.form_text.specs.Rules.{IsOfForm, arm_fits, block_fits, call_fits, count_of_steps, is_of_kind, jump_fits, next_fits, operand_kind, size_of, statement_fits, terminator_fits}
-use Rattle.kani_mir.specs.Told.{AreWithin}
+use Rattle.first_form.specs.Rules.{IsOfForm, arm_fits, block_fits, call_fits, count_of_steps, is_numbered, is_of_kind, jump_fits, next_fits, operand_kind, size_of, statement_fits, terminator_fits}
 use Rattle.verdicts.specs.Runnable.{ArmsGoOn, GoesOn, IsRunnable, NextGoesOn, Runnable, SwitchesOnNumber}
 use Rattle.verdicts.proofs.Listed.{and_left}
 use Rattle.verdicts.proofs.WalkLemmas.{and_right}
@@ -53,7 +52,7 @@ switches_on_number f from (terminator.Switch (operand.Const (constant.Text t)) a
 switches_on_number f from terminator.Return e = tt
 switches_on_number f from (terminator.Call destination callee arguments next) e = tt
 
-pub runnable_blocks : (f : Function) (bs : List Block) → list_all (block_fits f) bs ≡ true → AreWithin bs → count_of_steps bs ≤ 1000 → Runnable bs
+pub runnable_blocks : (f : Function) (bs : List Block) → list_all (block_fits f) bs ≡ true → list_all is_numbered bs ≡ true → count_of_steps bs ≤ 1000 → Runnable bs
 runnable_blocks f [] typed within small = tt
 runnable_blocks f (b ∷ bs) typed within small =
     let this : block_fits f b ≡ true = and_left (block_fits f b) (list_all (block_fits f) bs) typed in
@@ -61,12 +60,12 @@ runnable_blocks f (b ∷ bs) typed within small =
     let last : terminator_fits f b.id.0 b.terminator ≡ true = and_right (list_all (statement_fits f) b.statements) (terminator_fits f b.id.0 b.terminator) this in (
       record {
         short = omega arith;
-        within = within.0;
+        within = ltb-true b.id.0 4096 (and_left (is_numbered b) (list_all is_numbered bs) within);
         jumps = goes_on f b.id.0 b.terminator last;
         numbers = switches_on_number f b.id.0 b.terminator last;
       },
-      runnable_blocks f bs (and_right (block_fits f b) (list_all (block_fits f) bs) typed) within.1 (omega arith),
+      runnable_blocks f bs (and_right (block_fits f b) (list_all (block_fits f) bs) typed) (and_right (is_numbered b) (list_all is_numbered bs) within) (omega arith),
     )
 
-pub runnable : (f : Function) → IsOfForm f → AreWithin f.blocks → Runnable f.blocks
-runnable f form within = runnable_blocks f f.blocks form.typed within form.small
+pub runnable : (f : Function) → IsOfForm f → Runnable f.blocks
+runnable f form = runnable_blocks f f.blocks form.typed form.numbered form.small

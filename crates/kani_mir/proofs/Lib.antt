@@ -1,4 +1,4 @@
 pub mod CommandLemmas
 pub mod FormLemmas
 pub mod JudgeLemmas
-pub mod LabelLemmas
+pub mod UnitLemmas

@@ -2,12 +2,13 @@
 use Rattle.std.specs.Prelude.{◌≡◌, ◌⊎◌, ℕ, ◌<◌, ◌≤◌, Bool, true, ◌&&◌, if◌then◌else◌, List, [], ◌∷◌, ◌++◌, length, take, map, codes, Option, Some, None, IfSome, string_bytes, String}
 use Rattle.std.specs.declared.alloc.Global.{Global}
 use Rattle.vk_files.specs.Causes.{Rose}
-use Rattle.form_ir.specs.declared.tree.Function.{Function}
-use Rattle.form_text.specs.Means.{Means}
-use Rattle.form_text.specs.Rules.{choice_bits}
+use Rattle.mir_program.specs.Joined.{Joined}
+use Rattle.front_end.specs.Front.{IsRefused}
+use Rattle.front_end.specs.Lines.{refusal_text}
 use Rattle.verdicts.specs.declared.status.UnitReport.{UnitReport}
 use Rattle.verdicts.specs.Report.{line, report_of}
-use Rattle.verdicts.specs.Statuses.{FitStatuses, NeverFaults, all_succeed}
+use Rattle.verdicts.specs.Statuses.{all_succeed}
+use Rattle.kani_mir.specs.Units.{AreReports, IsBuilt, IsSafe, IsTyped}
 use Rattle.kani_mir.specs.declared.answer.Answer.{Answer}
 use Rattle.kani_mir.specs.declared.answer.Answer.TheVariants as answer
 use Rattle.kani_mir.specs.declared.answer.FileWord.{FileWord}
@@ -16,10 +17,6 @@ use Rattle.kani_mir.specs.declared.answer.FileWord.TheVariants as file
 -- the most bytes of a file
 abbrev pub max_file : ℕ
 max_file = 4194304
-
--- the four lines of a declaration file
-unfoldable pub four_lines : List ℕ
-four_lines = codes "version = 1\n[[unit]]\nkind = \"proof\"\nfunction = \"check\"\n"
 
 -- the words are `verify MIR DECL`
 abbrev pub AreVerify : List (List ℕ) → List ℕ → List ℕ → Type 0
@@ -37,31 +34,19 @@ Fits told bytes = Says told (Some bytes) × (length bytes ≤ max_file)
 abbrev pub IsLong : Option (Option (List ℕ)) → Type 0
 IsLong told = IfSome told (λ f. (bytes : List ℕ) × (f ≡ Some bytes) × (max_file < length bytes))
 
--- the text means this function, whose choices can be tried, and the declarations name it as a proof harness
-pub record IsBuilt (mir decl : List ℕ) (f : Function) : Type 0 where
-  pub means : Means mir (f ∷ [])
-  pub unit : decl ≡ four_lines
-  pub bits : choice_bits f ≤ 16
-
--- the report tells of the harness alone, and each status is true of all its runs
-pub record IsReportOf (f : Function) (reports : List UnitReport) : Type 0 where
-  pub report : UnitReport
-  pub only : reports ≡ report ∷ []
-  pub harness : report.harness ≡ f.name
-  pub statuses : FitStatuses f report.statuses
-
 -- what is right for files with these bytes
 abbrev pub IsJudged : List ℕ → List ℕ → Answer → Type 0
 IsJudged m d answer.Usage = ⊥
 IsJudged m d (answer.Missing w) = ⊥
 IsJudged m d (answer.ReadFault w) = ⊥
 IsJudged m d (answer.TooLong w) = ⊥
-IsJudged m d answer.NotBuilt = (f : Function) → IsBuilt m d f → ⊥
-IsJudged m d (answer.Report reports) = (f : Function) × IsBuilt m d f × IsReportOf f reports
+IsJudged m d (answer.Refused refusal) = IsRefused m d refusal
+IsJudged m d answer.NotBuilt = (p : Joined) × IsTyped m d p × (IsBuilt p → ⊥)
+IsJudged m d (answer.Report reports) = (p : Joined) × IsTyped m d p × IsBuilt p × AreReports p.functions p.declarations.units reports
 
 -- both files were read, and this is right for them
-abbrev pub IsRead : Option (Option (List ℕ)) → Option (Option (List ℕ)) → Answer → Type 0
-IsRead mir decl a = (m d : List ℕ) × Fits mir m × Fits decl d × IsJudged m d a
+abbrev pub AreRead : Option (Option (List ℕ)) → Option (Option (List ℕ)) → Answer → Type 0
+AreRead mir decl a = (m d : List ℕ) × Fits mir m × Fits decl d × IsJudged m d a
 
 -- What is right for two names, where this is told of them: the first file decides before the second one, and both
 -- before what they hold. A read fault needs a rise of the files' count of faults.
@@ -73,8 +58,9 @@ IsFound mir decl before now (answer.ReadFault file.Mir) = Rose before now
 IsFound mir decl before now (answer.ReadFault file.Declarations) = (m : List ℕ) × Fits mir m × Rose before now
 IsFound mir decl before now (answer.TooLong file.Mir) = IsLong mir
 IsFound mir decl before now (answer.TooLong file.Declarations) = (m : List ℕ) × Fits mir m × IsLong decl
-IsFound mir decl before now answer.NotBuilt = IsRead mir decl answer.NotBuilt
-IsFound mir decl before now (answer.Report reports) = IsRead mir decl (answer.Report reports)
+IsFound mir decl before now (answer.Refused refusal) = AreRead mir decl (answer.Refused refusal)
+IsFound mir decl before now answer.NotBuilt = AreRead mir decl answer.NotBuilt
+IsFound mir decl before now (answer.Report reports) = AreRead mir decl (answer.Report reports)
 
 -- What is right for words, where the files hold this; the counts are those of the files' faults.
 abbrev pub IsRight : List (List ℕ) → (List ℕ → Option (Option (List ℕ))) → ℕ → ℕ → Answer → Type 0
@@ -91,6 +77,7 @@ status_of answer.Usage = 64
 status_of (answer.Missing w) = 4
 status_of (answer.ReadFault w) = 4
 status_of (answer.TooLong w) = 2
+status_of (answer.Refused refusal) = 2
 status_of answer.NotBuilt = 2
 status_of (answer.Report reports) = if all_units_succeed reports then 0 else 1
 
@@ -108,6 +95,7 @@ text_of words answer.Usage = line (codes "error: usage: NotBuilt")
 text_of words (answer.Missing w) = line (codes "error: file: Missing " ++ name_in words w)
 text_of words (answer.ReadFault w) = line (codes "error: file: ReadFault " ++ name_in words w)
 text_of words (answer.TooLong w) = line (codes "error: file: TooLong " ++ name_in words w)
+text_of words (answer.Refused refusal) = line (refusal_text refusal)
 text_of words answer.NotBuilt = line (codes "error: input: NotBuilt")
 text_of words (answer.Report reports) = report_of reports
 
@@ -121,7 +109,7 @@ pub data Concludes (right : Answer → Type 0) (text : Answer → List ℕ) (sin
 abbrev pub words_of : List (String Global) → List (List ℕ)
 words_of words = map (λ w. string_bytes w) words
 
--- Where the files tell what they hold and the words are `verify MIR DECL`, the text of MIR means a function of which
--- no choices and no number of steps lead to a fault.
+-- Where the files tell what they hold and the words are `verify MIR DECL`, the two files make a well-typed program, each unit of which
+-- names a function of the first form of which no choices and no number of steps lead to a fault.
 abbrev pub Headline : List (List ℕ) → (List ℕ → Option (Option (List ℕ))) → Type 0
-Headline words held = (mir decl m : List ℕ) → AreVerify words mir decl → held mir ≡ Some (Some m) → (f : Function) × Means m (f ∷ []) × NeverFaults f
+Headline words held = (mir decl m d : List ℕ) → AreVerify words mir decl → held mir ≡ Some (Some m) → held decl ≡ Some (Some d) → IsSafe m d

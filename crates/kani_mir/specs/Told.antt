@@ -1,8 +1,9 @@
 -- What there is to tell at each step of the command.
-use Rattle.std.specs.Prelude.{◌≡◌, ℕ, ◌<◌, ◌≤◌, List, [], ◌∷◌, Option, None, Result, Ok, Err}
-use Rattle.form_ir.specs.declared.tree.Block.{Block}
-use Rattle.form_ir.specs.declared.tree.Function.{Function}
-use Rattle.form_text.specs.Rules.{choice_bits}
+use Rattle.std.specs.Prelude.{◌≡◌, ℕ, ◌<◌, ◌≤◌, List, [], ◌∷◌, Option, None, IsSome, Result, Ok, Err}
+use Rattle.mir_ir.specs.declared.tree.Function as mir_function
+use Rattle.mir_ir.specs.declared.declarations.Unit as units
+use Rattle.mir_program.specs.Joined.{Joined}
+use Rattle.type_rules.specs.Lookup.{function_named}
 use Rattle.vk_core.specs.declared.memory.NoMemory.{NoMemory}
 use Rattle.vk_files.specs.Causes.{Rose}
 use Rattle.vk_files.specs.declared.reading.FileFault.{FileFault}
@@ -11,21 +12,22 @@ use Rattle.kani_mir.specs.declared.answer.Answer.{Answer}
 use Rattle.kani_mir.specs.declared.answer.Answer.TheVariants as answer
 use Rattle.kani_mir.specs.declared.answer.FileWord.{FileWord}
 use Rattle.kani_mir.specs.declared.answer.FileWord.TheVariants as file
-use Rattle.kani_mir.specs.Command.{Fits, IsJudged, IsLong, IsReportOf, Says}
+use Rattle.kani_mir.specs.Command.{Fits, IsJudged, IsLong, Says}
+use Rattle.kani_mir.specs.Units.{AreReports, IsBuilt}
 
--- the numbers of blocks are at most 4,095, as those of all labels that are read
-abbrev pub AreWithin : List Block → Type 0
-AreWithin [] = Unit {0}
-AreWithin (b ∷ bs) = (b.id.0 < 4096) × AreWithin bs
+-- of a well-typed program: one report for each of its units where it is built, and else that it is not
+abbrev pub IsTold : Joined → Answer → Type 0
+IsTold p answer.Usage = ⊥
+IsTold p (answer.Missing w) = ⊥
+IsTold p (answer.ReadFault w) = ⊥
+IsTold p (answer.TooLong w) = ⊥
+IsTold p (answer.Refused refusal) = ⊥
+IsTold p answer.NotBuilt = IsBuilt p → ⊥
+IsTold p (answer.Report reports) = IsBuilt p × AreReports p.functions p.declarations.units reports
 
--- of a function of the form: a report where its choices can be tried, and else that it is not built
-abbrev pub IsTold : Function → Answer → Type 0
-IsTold f answer.Usage = ⊥
-IsTold f (answer.Missing w) = ⊥
-IsTold f (answer.ReadFault w) = ⊥
-IsTold f (answer.TooLong w) = ⊥
-IsTold f answer.NotBuilt = choice_bits f ≤ 16 → ⊥
-IsTold f (answer.Report reports) = (choice_bits f ≤ 16) × IsReportOf f reports
+-- the unit names a function of the text
+abbrev pub IsKnown : List mir_function.Function → units.Unit → Type 0
+IsKnown functions u = IsSome (function_named functions u.name)
 
 -- of a file that was not read
 abbrev pub IsRefusal : FileWord → FileFault → Result Answer NoMemory → Type 0
@@ -43,5 +45,6 @@ IsFoundBehind m decl before now (answer.ReadFault file.Mir) = ⊥
 IsFoundBehind m decl before now (answer.ReadFault file.Declarations) = Rose before now
 IsFoundBehind m decl before now (answer.TooLong file.Mir) = ⊥
 IsFoundBehind m decl before now (answer.TooLong file.Declarations) = IsLong decl
+IsFoundBehind m decl before now (answer.Refused refusal) = (d : List ℕ) × Fits decl d × IsJudged m d (answer.Refused refusal)
 IsFoundBehind m decl before now answer.NotBuilt = (d : List ℕ) × Fits decl d × IsJudged m d answer.NotBuilt
 IsFoundBehind m decl before now (answer.Report reports) = (d : List ℕ) × Fits decl d × IsJudged m d (answer.Report reports)

@@ -1,3 +1,4 @@
+use front_end::Refusal;
 use sqlite_items::Items;
 use verdicts::UnitReport;
 
@@ -16,7 +17,9 @@ pub enum Answer {
     Missing(FileWord),
     ReadFault(FileWord),
     TooLong(FileWord),
-    /// The text or the declaration file is of a form that is not built yet.
+    /// The text, the declaration file, the layouts or the types are refused.
+    Refused(Refusal),
+    /// The program is of a form that is not built yet.
     NotBuilt,
     Report(Items<UnitReport>),
 }

@@ -2,9 +2,11 @@
 #![tactic(auto)]
 
 mod answer;
+mod built;
 mod command;
 mod judge;
 mod output;
+mod units;
 
 use command::run_command;
 use std::env;

@@ -1,8 +1,10 @@
 ghost use Rattle.std.specs.Prelude.{◌≡◌, ◌++◌, IfOk, List, ℕ, codes, string_bytes};
+ghost use Rattle.front_end.specs.Lines.{refusal_text};
 ghost use Rattle.verdicts.specs.Report.{line};
 ghost use Rattle.kani_mir.specs.Command.{all_units_succeed, name_in, status_of, text_of, words_of};
 
 use crate::answer::{Answer, FileWord};
+use front_end::{Refusal, refusal_text};
 use std::alloc::Global;
 use verdicts::{UnitReport, all_succeed, report_text};
 use vk_core::NoMemory;
@@ -16,6 +18,7 @@ pub fn status_of(answer: &Answer) -> u8
         Answer::Missing(_) => 4,
         Answer::ReadFault(_) => 4,
         Answer::TooLong(_) => 2,
+        Answer::Refused(_) => 2,
         Answer::NotBuilt => 2,
         Answer::Report(reports) => {
             if all_units_succeed(reports.as_slice()) {
@@ -52,9 +55,19 @@ pub fn text_of(alloc: Global, words: &[String], answer: &Answer) -> Result<Vec<u
         Answer::Missing(word) => line(alloc, b"error: file: Missing ", name_in(words, *word)),
         Answer::ReadFault(word) => line(alloc, b"error: file: ReadFault ", name_in(words, *word)),
         Answer::TooLong(word) => line(alloc, b"error: file: TooLong ", name_in(words, *word)),
+        Answer::Refused(refusal) => refusal_line(alloc, refusal),
         Answer::NotBuilt => line(alloc, b"error: input: NotBuilt", ""),
         Answer::Report(reports) => report_text(alloc, reports.as_slice()),
     }
+}
+
+/// The line of a refusal.
+fn refusal_line(alloc: Global, refusal: &Refusal) -> Result<Vec<u8>, NoMemory>
+    ensures { IfOk result (λ text. text.items ≡ line (refusal_text refusal.now)) }
+{
+    let mut text = refusal_text(alloc, refusal)?;
+    text.push(b'\n')?;
+    Ok(text)
 }
 
 /// A line of two texts.

@@ -1,0 +1,4 @@
+pub mod Bits
+pub mod DifferSteps
+pub mod EachSteps
+pub mod FirstLeft

@@ -1,0 +1,3 @@
+pub mod First
+pub mod Formed
+pub mod Rules

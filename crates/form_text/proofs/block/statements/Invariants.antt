@@ -1,7 +1,0 @@
-use Rattle.std.proofs.Common.{◌≡◌, ◌-◌, length}
-use Rattle.form_text.specs.Reading.{many, statement_at}
-use Rattle.form_text.proofs.ManySteps.{behind}
-use Rattle.form_text.proofs.block.statements.Given as goal
-
-abbrev pub invariant-loop-turn : goal.invariant-loop-turn
-invariant-loop-turn l = behind l.statements (many statement_at (length l.tokens - l._turn) l.rest) ≡ many statement_at (length l.tokens) l.tokens

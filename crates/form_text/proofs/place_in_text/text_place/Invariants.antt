@@ -1,6 +1,0 @@
-use Rattle.std.proofs.Common.{◌≡◌, ◌≤◌, ◌+◌, take}
-use Rattle.form_text.specs.Places.{line_behind, column_behind}
-use Rattle.form_text.proofs.place_in_text.text_place.Given as goal
-
-abbrev pub invariant-loop-byte : goal.invariant-loop-byte
-invariant-loop-byte l = (l.line ≡ line_behind (take l.byte-index l.before)) × (l.column ≡ column_behind (take l.byte-index l.before)) × (l.line ≤ l.byte-index + 1) × (l.column ≤ l.byte-index + 1)
