@@ -3,3 +3,6 @@
 
 #[cfg(test)]
 mod of_entry_types;
+mod types;
+
+pub use types::reference;

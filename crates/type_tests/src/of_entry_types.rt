@@ -1,3 +1,4 @@
+use crate::types::reference;
 use entry_types::{Functions, declarations_fit};
 use mir_ir::{
     AliasDecl, Block, Contract, Declarations, FieldDecl, Function, IntTy, Local, LoopRule,
@@ -5,7 +6,7 @@ use mir_ir::{
     VariantDecl, VtableDecl,
 };
 use name_tables::Declared;
-use sqlite_items::{Boxed, Items};
+use sqlite_items::Items;
 use std::alloc::Global;
 use std::test::Fail;
 use type_rules::{Refusal, TypeKind};
@@ -28,11 +29,6 @@ fn nothing_declared(alloc: Global) -> Declarations {
 fn named(alloc: Global, path: &[u8]) -> Result<Ty, NoMemory> {
     let path = Name::from_bytes(alloc, path)?;
     Ok(Ty::Named(path))
-}
-
-fn reference(alloc: Global, mutable: bool, target: Ty) -> Result<Ty, NoMemory> {
-    let target = Boxed::new(alloc, target)?;
-    Ok(Ty::Ref { mutable, target })
 }
 
 /// `&dyn Missing`
