@@ -20,11 +20,11 @@ use Rattle.gate_trim.specs.Marks.{AreWanted}
 use Rattle.gate_trim.specs.Trimmed.{circuit, IsCircuit, IsTrimmed}
 use Rattle.sym_terms.specs.Terms.{value as term_at}
 use Rattle.bit_blast.specs.Reached.{is_part, is_root}
-use Rattle.bit_blast.specs.Inputs.{HaveWidths, HavePlaces, ArePlaced, input_bits, AreAtPlaces}
+use Rattle.bit_blast.specs.Inputs.{AreFew, HaveWidths, HavePlaces, ArePlaced, input_bits, AreAtPlaces}
 use Rattle.bit_blast.specs.Blasted.{word_at, IsTable, IsBlasted, IsRoot, AreGatesOf, lists_of}
 use Rattle.bit_blast.proofs.Arithmetical.{same_word}
 use Rattle.bit_blast.proofs.Reaching.{root_is_root}
-use Rattle.bit_blast.proofs.Placing.{placed_apart, inputs_at_places, inputs_placed}
+use Rattle.bit_blast.proofs.Placing.{placed_apart, placed_small, inputs_at_places, inputs_placed}
 
 listed : (blocks : List (List ℕ)) (roots : List TermId) (k : ℕ) (root : TermId) → slice_get roots k ≡ Some root → get_or (map (λ (r : TermId). block_at blocks r.0) roots) k [] ≡ block_at blocks root.0
 listed blocks [] k root e = absurd (cc)
@@ -80,9 +80,9 @@ root_is c lean inputs gates terms places root old literals ei eg h are inside sa
     record { inside = r.0; word_is = r.1 }
 
 pub gates_made : (c : Circuit) (terms : List Term) (roots : List TermId) (widths places : List ℕ) (marks : List Bool) (blocks words : List (List ℕ)) (g : Gates) → c.inputs ≡ length g.inputs.items
-    → AreFitting terms → HaveWidths terms (length terms) widths → ArePlaced widths g.inputs.items places → length marks ≡ length terms → AreWanted (is_root roots) (is_part terms) 0 marks → IsTable c terms places marks (length terms) blocks
+    → AreFitting terms → HaveWidths terms (length terms) widths → AreFew widths → ArePlaced widths g.inputs.items places → length marks ≡ length terms → AreWanted (is_root roots) (is_part terms) 0 marks → IsTable c terms places marks (length terms) blocks
     → words ≡ map (λ (r : TermId). block_at blocks r.0) roots → All (λ r. r.0 < length terms) roots → IsTrimmed c words (circuit c.inputs g.gates.items) (lists_of g) → AreGatesOf terms roots g
-gates_made c terms roots widths places marks blocks words g ei fit have placed long reached t el all trimmed =
+gates_made c terms roots widths places marks blocks words g ei fit have few placed long reached t el all trimmed =
     let lean : Circuit = circuit c.inputs g.gates.items in
     let here : circuit c.inputs g.gates.items ≡ circuit (length g.inputs.items) g.gates.items = ap (λ (n : ℕ). circuit n g.gates.items) ei in
     let left : IsCircuit (circuit (length g.inputs.items) g.gates.items) = subst (λ (k : Circuit). IsCircuit k) here trimmed.gates in
@@ -90,6 +90,7 @@ gates_made c terms roots widths places marks blocks words g ei fit have placed l
     let roots_too : length words ≡ length roots = ap length el ∙ length-map roots (λ (r : TermId). block_at blocks r.0) in
     record {
       apart = placed_apart widths g.inputs.items places placed;
+      small = placed_small widths g.inputs.items places few placed;
       first = left.first;
       in_order = left.in_order;
       few = left.few;

@@ -7,5 +7,6 @@ pub mod Magnitudes
 pub mod Divided
 pub mod Exceeded
 pub mod Placing
+pub mod Widths
 pub mod Blasting
 pub mod Finished

@@ -1,14 +1,15 @@
 -- Where the bits of inputs stand.
 use Rattle.std.proofs.Common.{◌≡◌, ◌≢◌, ℕ, ◌+◌, ◌/◌, ◌%◌, ◌^◌, ◌<◌, ◌≤◌, eqb, List, [], ◌∷◌, ◌++◌, length, get_or, slice_get, Some, sym, ap, ◌∙◌, refl, arith, subst, zero, suc, inl, inr, length-append, append_assoc, ◌⊎◌}
-use Rattle.std.specs.List.{AllPairs}
+use Rattle.std.specs.List.{All, AllPairs}
 use Rattle.std.proofs.lemmas.Bool.{cases_lt}
 use Rattle.std.proofs.lemmas.List.{get_or_append_left, get_or-append-add, get_or_past, get_or_push, append-nil}
+use Rattle.std.proofs.lemmas.List.Elements.{All-append, All-nil, All-push}
 use Rattle.std.proofs.lemmas.List.Quantifiers.{all_pairs_push}
 use Rattle.sym_terms.specs.declared.term.Term.{Term}
 use Rattle.sym_terms.specs.declared.term.Term.TheVariants.{Input}
 use Rattle.sym_terms.specs.Terms.{AreFitting}
 use Rattle.bit_gates.specs.declared.gates.InputBit.{InputBit}
-use Rattle.bit_blast.specs.Inputs.{HaveWidths, bits_of, all_bits, ArePlaced, no_bit, input_bits, HavePlaces, AreAtPlaces}
+use Rattle.bit_blast.specs.Inputs.{AreFew, HaveWidths, bits_of, all_bits, ArePlaced, no_bit, input_bits, HavePlaces, AreAtPlaces}
 
 pub length_bits : (number width : ℕ) → length (bits_of number width) ≡ width
 length_bits number zero = refl
@@ -80,6 +81,18 @@ apart_all widths (suc m) =
 
 pub placed_apart : (widths : List ℕ) (bits : List InputBit) (places : List ℕ) → ArePlaced widths bits places → AllPairs (λ x y. x ≢ y) bits
 placed_apart widths bits places h = subst (λ (k : List InputBit). AllPairs (λ x y. x ≢ y) k) (sym h.bits_are) (apart_all widths (length widths)).0
+
+-- no bit of an input of few bits is bit 128 or above
+small_bits : (number width : ℕ) → width ≤ 128 → All (λ (b : InputBit). b.bit < 128) (bits_of number width)
+small_bits number zero h = All-nil (λ (b : InputBit). b.bit < 128)
+small_bits number (suc k) h = All-push (λ (b : InputBit). b.bit < 128) (bits_of number k) (record { number = number; bit = k }) (small_bits number k (omega arith)) (omega arith)
+
+small_all : (widths : List ℕ) (m : ℕ) → AreFew widths → All (λ (b : InputBit). b.bit < 128) (all_bits widths m)
+small_all widths zero few = All-nil (λ (b : InputBit). b.bit < 128)
+small_all widths (suc m) few = All-append (λ (b : InputBit). b.bit < 128) (all_bits widths m) (bits_of m (get_or widths m 0)) (small_all widths m few) (small_bits m (get_or widths m 0) (few m))
+
+pub placed_small : (widths : List ℕ) (bits : List InputBit) (places : List ℕ) → AreFew widths → ArePlaced widths bits places → All (λ (b : InputBit). b.bit < 128) bits
+placed_small widths bits places few h = subst (λ (k : List InputBit). All (λ (b : InputBit). b.bit < 128) k) (sym h.bits_are) (small_all widths (length widths) few)
 
 width_inside : (widths : List ℕ) (number width : ℕ) → get_or widths number 0 ≡ width → 1 ≤ width → number < length widths
 width_inside widths number width e l = elim (cases_lt number (length widths)) [

@@ -1,5 +1,5 @@
 -- Literals that are the value of a term.
-use Rattle.std.specs.Prelude.{◌≡◌, ◌≢◌, ℕ, Bool, true, false, List, ◌+◌, ◌^◌, ◌<◌, length, slice_get, get_or, map, [], Some, AllPairs}
+use Rattle.std.specs.Prelude.{◌≡◌, ◌≢◌, ℕ, Bool, true, false, List, ◌+◌, ◌^◌, ◌<◌, length, slice_get, get_or, map, [], Some, All, AllPairs}
 use Rattle.word_bits.specs.declared.word.Word.{Word}
 use Rattle.word_bits.specs.Words.{word_of}
 use Rattle.word_bits.specs.Signs.{with_sign}
@@ -64,9 +64,10 @@ pub record IsRoot (inputs : List InputBit) (gates : List Gate) (terms : List Ter
 abbrev pub lists_of : Gates → List (List ℕ)
 lists_of gates = map (λ word. word.items) gates.roots.items
 
--- gates for the roots: no input bit stands twice, each gate reads variables before it and is read, and each root is its term
+-- gates for the roots: no input bit stands twice, none is a number's bit 128 or above, each gate reads variables before it and is read, and each root is its term
 pub record AreGatesOf (terms : List Term) (roots : List TermId) (gates : Gates) : Type 0 where
   pub apart : AllPairs (λ x y. x ≢ y) gates.inputs.items
+  pub small : All (λ b. b.bit < 128) gates.inputs.items
   pub first : slice_get gates.gates.items 0 ≡ Some True
   pub in_order : AreInOrder (length gates.inputs.items) gates.gates.items
   pub few : length gates.inputs.items + length gates.gates.items < 2 ^ 60

@@ -14,6 +14,10 @@ input_of _ = None
 abbrev pub HaveWidths : List Term → ℕ → List ℕ → Type 0
 HaveWidths terms count widths = (n number width : ℕ) → n < count → slice_get terms n ≡ Some (Input number width) → get_or widths number 0 ≡ width
 
+-- no input has more than 128 bits
+abbrev pub AreFew : List ℕ → Type 0
+AreFew widths = (number : ℕ) → get_or widths number 0 ≤ 128
+
 -- the bits of an input, the lowest first
 abbrev pub bits_of : ℕ → ℕ → List InputBit
 bits_of number zero = []

@@ -1,5 +1,5 @@
 ghost use Rattle.std.specs.Prelude.{◌≡◌, ◌≤◌, ◌++◌, ◌==◌, ◌<◌, ◌^◌, ℕ, IfOk, OnOk, length, get_or, vec_len, if◌then◌else◌};
-ghost use Rattle.bit_blast.specs.Inputs.{HaveWidths, ArePlaced, bits_of, input_of};
+ghost use Rattle.bit_blast.specs.Inputs.{AreFew, HaveWidths, ArePlaced, bits_of, input_of};
 
 use bit_gates::InputBit;
 use std::alloc::Global;
@@ -55,7 +55,8 @@ fn set_width(widths: &mut Vec<u32>, number: usize, width: u32) -> Result<(), NoM
 
 /// The width of each input by its number, 0 where there is none.
 pub fn input_widths(alloc: Global, terms: &Terms) -> Result<Vec<u32>, NoMemory>
-    ensures { IfOk result (λ widths. HaveWidths terms.now (length terms.now) widths.items) }
+    ensures have { IfOk result (λ widths. HaveWidths terms.now (length terms.now) widths.items) }
+    ensures few { IfOk result (λ widths. AreFew widths.items) }
 {
     let mut widths = Vec::new(alloc);
     for n in 0..terms.len() {

@@ -17,6 +17,8 @@ mod of_sat_core;
 #[cfg(test)]
 mod of_sym_terms;
 #[cfg(test)]
+mod of_term_queries;
+#[cfg(test)]
 mod of_watch_lists;
 
 pub use constants::constant;

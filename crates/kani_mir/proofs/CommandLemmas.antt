@@ -3,7 +3,7 @@ use Rattle.std.proofs.Common.{◌≡◌, ◌⊎◌, inl, inr, ℕ, ◌+◌, ◌-
 use Rattle.std.specs.Prelude.{codes, string_bytes, String}
 use Rattle.std.specs.declared.alloc.Global.{Global}
 use Rattle.vk_files.specs.Causes.{Rose}
-use Rattle.verdicts.specs.declared.status.UnitReport.{UnitReport}
+use Rattle.unit_reports.specs.declared.status.UnitReport.{UnitReport}
 use Rattle.kani_mir.specs.Command.{AreVerify, Concludes, Fits, Headline, IsFound, IsJudged, IsRight, Says, all_units_succeed, cut, max_file, nothing, status_of, whole, words_of}
 use Rattle.kani_mir.specs.Told.{IsFoundBehind}
 use Rattle.kani_mir.specs.declared.answer.Answer.{Answer}

@@ -1,4 +1,3 @@
 pub mod CommandLemmas
-pub mod FormLemmas
 pub mod JudgeLemmas
 pub mod UnitLemmas

@@ -5,9 +5,10 @@ use Rattle.vk_files.specs.Causes.{Rose}
 use Rattle.mir_program.specs.Joined.{Joined}
 use Rattle.front_end.specs.Front.{IsRefused}
 use Rattle.front_end.specs.Lines.{refusal_text}
-use Rattle.verdicts.specs.declared.status.UnitReport.{UnitReport}
-use Rattle.verdicts.specs.Report.{line, report_of}
-use Rattle.verdicts.specs.Statuses.{all_succeed}
+use Rattle.unit_reports.specs.declared.status.UnitReport.{UnitReport}
+use Rattle.unit_reports.specs.declared.verdict.Verdict.TheVariants as verdict
+use Rattle.unit_reports.specs.Report.{line, report_of}
+use Rattle.unit_reports.specs.Verdicts.{same_verdict, verdict_of}
 use Rattle.kani_mir.specs.Units.{AreReports, IsBuilt, IsSafe, IsTyped}
 use Rattle.kani_mir.specs.declared.answer.Answer.{Answer}
 use Rattle.kani_mir.specs.declared.answer.Answer.TheVariants as answer
@@ -68,9 +69,12 @@ IsRight words held before now a =
     ((a ≡ answer.Usage) × ((mir decl : List ℕ) → AreVerify words mir decl → ⊥))
     ⊎ ((mir decl : List ℕ) × AreVerify words mir decl × IsFound (held mir) (held decl) before now a)
 
+abbrev pub is_successful : UnitReport → Bool
+is_successful r = same_verdict (verdict_of r.statuses.items) verdict.Successful
+
 abbrev pub all_units_succeed : List UnitReport → Bool
 all_units_succeed [] = true
-all_units_succeed (r ∷ rs) = all_succeed r.statuses && all_units_succeed rs
+all_units_succeed (r ∷ rs) = is_successful r && all_units_succeed rs
 
 abbrev pub status_of : Answer → ℕ
 status_of answer.Usage = 64
@@ -110,6 +114,6 @@ abbrev pub words_of : List (String Global) → List (List ℕ)
 words_of words = map (λ w. string_bytes w) words
 
 -- Where the files tell what they hold and the words are `verify MIR DECL`, the two files make a well-typed program, each unit of which
--- names a function of the first form of which no choices and no number of steps lead to a fault.
+-- names a function of the scalar form of which no choices and no number of steps lead to a fault.
 abbrev pub Headline : List (List ℕ) → (List ℕ → Option (Option (List ℕ))) → Type 0
 Headline words held = (mir decl m d : List ℕ) → AreVerify words mir decl → held mir ≡ Some (Some m) → held decl ≡ Some (Some d) → IsSafe m d

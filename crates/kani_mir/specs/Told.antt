@@ -1,6 +1,6 @@
 -- What there is to tell at each step of the command.
 use Rattle.std.specs.Prelude.{◌≡◌, ℕ, ◌<◌, ◌≤◌, List, [], ◌∷◌, Option, None, IsSome, Result, Ok, Err}
-use Rattle.mir_ir.specs.declared.tree.Function as mir_function
+use Rattle.mir_ir.specs.declared.tree.Function.{Function}
 use Rattle.mir_ir.specs.declared.declarations.Unit as units
 use Rattle.mir_program.specs.Joined.{Joined}
 use Rattle.type_rules.specs.Lookup.{function_named}
@@ -26,7 +26,7 @@ IsTold p answer.NotBuilt = IsBuilt p → ⊥
 IsTold p (answer.Report reports) = IsBuilt p × AreReports p.functions p.declarations.units reports
 
 -- the unit names a function of the text
-abbrev pub IsKnown : List mir_function.Function → units.Unit → Type 0
+abbrev pub IsKnown : List Function → units.Unit → Type 0
 IsKnown functions u = IsSome (function_named functions u.name)
 
 -- of a file that was not read

@@ -1,7 +1,7 @@
--- What is verified of a program: its units, whose functions are of the first form so far, and what is told of each.
-use Rattle.std.specs.Prelude.{◌≡◌, ℕ, Bool, true, false, ◌&&◌, List, [], ◌∷◌, Some, All}
+-- What is verified of a program: its units, whose functions are of the scalar form so far, and what is told of each.
+use Rattle.std.specs.Prelude.{◌≡◌, ℕ, ◌-◌, ◌^◌, Bool, true, false, ◌&&◌, List, [], ◌∷◌, Some}
 use Rattle.std.specs.List.{list_all}
-use Rattle.mir_ir.specs.declared.tree.Function as mir_function
+use Rattle.mir_ir.specs.declared.tree.Function.{Function}
 use Rattle.mir_ir.specs.declared.declarations.Declarations.{Declarations}
 use Rattle.mir_ir.specs.declared.declarations.Unit as units
 use Rattle.mir_ir.specs.declared.declarations.UnitKind.{UnitKind}
@@ -10,10 +10,9 @@ use Rattle.mir_program.specs.Joined.{Joined}
 use Rattle.type_rules.specs.Lookup.{function_named}
 use Rattle.typed_program.specs.WellTyped.{IsWellTyped}
 use Rattle.front_end.specs.Front.{IsRead}
-use Rattle.form_ir.specs.declared.tree.Function.{Function}
-use Rattle.first_form.specs.First.{IsFirstForm}
-use Rattle.verdicts.specs.Statuses.{FitStatuses, NeverFaults}
-use Rattle.verdicts.specs.declared.status.UnitReport.{UnitReport}
+use Rattle.scalar_form.specs.Form.{is_scalar}
+use Rattle.scalar_verdicts.specs.Statuses.{FitStatuses, NeverFaults, NoneIsSpent}
+use Rattle.unit_reports.specs.declared.status.UnitReport.{UnitReport}
 
 -- two files with these bytes make this program, which is well typed
 pub record IsTyped (m d : List ℕ) (p : Joined) : Type 0 where
@@ -43,41 +42,39 @@ pub record HasHarnessesAlone (d : Declarations) : Type 0 where
   pub loops : d.loops ≡ []
   pub units : list_all is_harness d.units ≡ true
 
-abbrev pub HasFirstForm : mir_function.Function → Type 0
-HasFirstForm f = (g : Function) × IsFirstForm f g
-
 -- what is built so far
 pub record IsBuilt (p : Joined) : Type 0 where
   pub declarations : HasHarnessesAlone p.declarations
-  pub functions : All HasFirstForm p.functions
+  pub functions : list_all is_scalar p.functions ≡ true
 
--- the function of this name is this one of the first form
-pub record IsFormNamed (functions : List mir_function.Function) (name : List ℕ) (form : Function) : Type 0 where
-  pub function : mir_function.Function
-  pub named : function_named functions name ≡ Some function
-  pub formed : IsFirstForm function form
+-- the greatest u64: no budget of lines is set
+abbrev pub no_budget : ℕ
+no_budget = 2 ^ 64 - 1
 
--- the report tells of the unit, and each status is true of all runs of its function
-pub record IsReportOf (functions : List mir_function.Function) (u : units.Unit) (report : UnitReport) : Type 0 where
+-- the report tells of the unit, and each status is true of all runs of its function; none is spent
+pub record IsReportOf (functions : List Function) (u : units.Unit) (report : UnitReport) : Type 0 where
   pub harness : report.harness ≡ u.name
-  pub form : Function
-  pub found : IsFormNamed functions u.name form
-  pub statuses : FitStatuses form report.statuses
+  pub function : Function
+  pub named : function_named functions u.name ≡ Some function
+  pub form : is_scalar function ≡ true
+  pub statuses : FitStatuses function no_budget report.statuses.items
+  pub unspent : NoneIsSpent report.statuses.items
 
 -- one report for each unit, in their order
-abbrev pub AreReports : List mir_function.Function → List units.Unit → List UnitReport → Type 0
+abbrev pub AreReports : List Function → List units.Unit → List UnitReport → Type 0
 AreReports functions [] [] = Unit {0}
 AreReports functions [] (r ∷ rs) = ⊥
 AreReports functions (u ∷ us) [] = ⊥
 AreReports functions (u ∷ us) (r ∷ rs) = IsReportOf functions u r × AreReports functions us rs
 
--- the unit names a function of the first form of which no choices and no number of steps lead to a fault
-pub record NeverFails (functions : List mir_function.Function) (u : units.Unit) : Type 0 where
-  pub form : Function
-  pub found : IsFormNamed functions u.name form
-  pub never : NeverFaults form
+-- the unit names a function of which no choices and no number of steps lead to a fault
+pub record NeverFails (functions : List Function) (u : units.Unit) : Type 0 where
+  pub function : Function
+  pub named : function_named functions u.name ≡ Some function
+  pub form : is_scalar function ≡ true
+  pub never : NeverFaults function
 
-abbrev pub NoneFails : List mir_function.Function → List units.Unit → Type 0
+abbrev pub NoneFails : List Function → List units.Unit → Type 0
 NoneFails functions [] = Unit {0}
 NoneFails functions (u ∷ us) = NeverFails functions u × NoneFails functions us
 

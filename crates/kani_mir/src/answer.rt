@@ -1,6 +1,6 @@
 use front_end::Refusal;
 use sqlite_items::Items;
-use verdicts::UnitReport;
+use unit_reports::UnitReport;
 
 /// Which of the words of the command names a file.
 #[derive(Clone, Copy, Debug, PartialEq, Eq)]

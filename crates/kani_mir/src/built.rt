@@ -1,12 +1,11 @@
-ghost use Rattle.std.specs.Prelude.{◌≡◌, ◌↔◌, All, IfOk, IsTrue};
+ghost use Rattle.std.specs.Prelude.{◌≡◌, ◌↔◌, IsTrue};
 ghost use Rattle.std.specs.List.{list_all};
-ghost use Rattle.kani_mir.specs.Units.{HasFirstForm, HasHarnessesAlone, IsBuilt, is_harness};
+ghost use Rattle.scalar_form.specs.Form.{is_scalar};
+ghost use Rattle.kani_mir.specs.Units.{HasHarnessesAlone, IsBuilt, is_harness};
 
-use first_form::first_form;
 use mir_ir::{Declarations, Function, Unit, UnitKind};
 use mir_program::Program;
-use std::alloc::Global;
-use vk_core::NoMemory;
+use scalar_form::is_scalar;
 
 fn is_harness(unit: &Unit) -> bool
     ensures { result ≡ is_harness unit.now }
@@ -43,35 +42,22 @@ fn has_harnesses_alone(declarations: &Declarations) -> bool
         && are_harnesses(declarations.units.as_slice())
 }
 
-fn has_first_form(alloc: Global, function: &Function) -> Result<bool, NoMemory>
-    ensures { IfOk result (λ has. IsTrue has ↔ HasFirstForm function.now) }
-{
-    match first_form(alloc, function)? {
-        None => Ok(false),
-        Some(_form) => Ok(true),
-    }
-}
-
-fn have_first_form(alloc: Global, functions: &[Function]) -> Result<bool, NoMemory>
-    ensures { IfOk result (λ have. IsTrue have ↔ All HasFirstForm functions.now) }
+fn are_scalar(functions: &[Function]) -> bool
+    ensures { result ≡ list_all is_scalar functions.now }
 {
     let mut left = functions;
     while let [function, rest @ ..] = left {
-        if !has_first_form(alloc, function)? {
-            return Ok(false);
+        if !is_scalar(function) {
+            return false;
         }
         left = rest;
     }
-    Ok(true)
+    true
 }
 
 /// Whether the program is of the form that is built so far.
-pub fn is_built(alloc: Global, program: &Program) -> Result<bool, NoMemory>
-    ensures { IfOk result (λ built. IsTrue built ↔ IsBuilt program.now) }
+pub fn is_built(program: &Program) -> bool
+    ensures { IsTrue result ↔ IsBuilt program.now }
 {
-    if !has_harnesses_alone(program.declarations()) {
-        return Ok(false);
-    }
-    let have = have_first_form(alloc, program.functions())?;
-    Ok(have)
+    has_harnesses_alone(program.declarations()) && are_scalar(program.functions())
 }

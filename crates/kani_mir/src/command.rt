@@ -6,6 +6,7 @@ ghost use Rattle.kani_mir.specs.Told.{IsFoundBehind, IsRefusal};
 use crate::answer::{Answer, FileWord};
 use crate::judge::judge;
 use crate::output::{status_of, text_of};
+use sat_core::Effort;
 use std::alloc::Global;
 use vk_core::NoMemory;
 use vk_files::{FileFault, Files, Sink, read_file, write_all};
@@ -19,19 +20,31 @@ pub fn run_command<F: Files, K: Sink>(
     words: &[String],
     files: &mut F,
     out: &mut K,
+    effort: &mut Effort,
 ) -> u8
+    requires { effort.old ≡ 0 }
     ensures concludes { Concludes (IsRight (words_of words.now) (F.held files.old) (F.faults files.old) (F.faults files.new)) (text_of (words_of words.now)) (Rose (K.faults out.old) (K.faults out.new)) (K.written out.old) (K.written out.new) result }
 
     // Success means that no choices and no number of steps lead to a panic, a memory fault or a broken assertion.
     ensures headline { result ≡ 0 → Headline (words_of words.now) (F.held files.old) }
+
+    // What the solver was given up on is only counted up.
+    ensures later { effort.old ≤ effort.new }
 {
-    conclude(alloc, words, files, out)
+    conclude(alloc, words, files, out, effort)
 }
 
-fn conclude<F: Files, K: Sink>(alloc: Global, words: &[String], files: &mut F, out: &mut K) -> u8
-    ensures { Concludes (IsRight (words_of words.now) (F.held files.old) (F.faults files.old) (F.faults files.new)) (text_of (words_of words.now)) (Rose (K.faults out.old) (K.faults out.new)) (K.written out.old) (K.written out.new) result }
+fn conclude<F: Files, K: Sink>(
+    alloc: Global,
+    words: &[String],
+    files: &mut F,
+    out: &mut K,
+    effort: &mut Effort,
+) -> u8
+    ensures later { effort.old ≤ effort.new }
+    ensures concludes { Concludes (IsRight (words_of words.now) (F.held files.old) (F.faults files.old) (F.faults files.new)) (text_of (words_of words.now)) (Rose (K.faults out.old) (K.faults out.new)) (K.written out.old) (K.written out.new) result }
 {
-    let answer = match answer_of(alloc, words, files) {
+    let answer = match answer_of(alloc, words, files, effort) {
         Ok(answer) => answer,
         Err(NoMemory) => return 3,
     };
@@ -46,13 +59,19 @@ fn conclude<F: Files, K: Sink>(alloc: Global, words: &[String], files: &mut F, o
 }
 
 /// What there is to tell for the words.
-fn answer_of<F: Files>(alloc: Global, words: &[String], files: &mut F) -> Result<Answer, NoMemory>
-    ensures { IfOk result (IsRight (words_of words.now) (F.held files.old) (F.faults files.old) (F.faults files.new)) }
+fn answer_of<F: Files>(
+    alloc: Global,
+    words: &[String],
+    files: &mut F,
+    effort: &mut Effort,
+) -> Result<Answer, NoMemory>
+    ensures later { effort.old ≤ effort.new }
+    ensures right { IfOk result (IsRight (words_of words.now) (F.held files.old) (F.faults files.old) (F.faults files.new)) }
 {
     match file_words(words) {
         None => Ok(Answer::Usage),
         Some((mir, declarations)) => {
-            let answer = verify(alloc, mir.as_str(), declarations.as_str(), files)?;
+            let answer = verify(alloc, mir.as_str(), declarations.as_str(), files, effort)?;
             Ok(answer)
         }
     }
@@ -86,12 +105,14 @@ fn verify<F: Files>(
     mir: &str,
     declarations: &str,
     files: &mut F,
+    effort: &mut Effort,
 ) -> Result<Answer, NoMemory>
-    ensures { IfOk result (IsFound (F.held files.old mir.now) (F.held files.old declarations.now) (F.faults files.old) (F.faults files.new)) }
+    ensures later { effort.old ≤ effort.new }
+    ensures found { IfOk result (IsFound (F.held files.old mir.now) (F.held files.old declarations.now) (F.faults files.old) (F.faults files.new)) }
 {
     match read_file(alloc, files, mir, MAX_FILE) {
         Ok(text) => {
-            let answer = verify_text(alloc, text.as_slice(), declarations, files)?;
+            let answer = verify_text(alloc, text.as_slice(), declarations, files, effort)?;
             Ok(answer)
         }
         Err(fault) => {
@@ -107,13 +128,15 @@ fn verify_text<F: Files>(
     text: &[u8],
     declarations: &str,
     files: &mut F,
+    effort: &mut Effort,
 ) -> Result<Answer, NoMemory>
     requires { length text.now ≤ 4194304 }
-    ensures { IfOk result (IsFoundBehind text.now (F.held files.old declarations.now) (F.faults files.old) (F.faults files.new)) }
+    ensures later { effort.old ≤ effort.new }
+    ensures found { IfOk result (IsFoundBehind text.now (F.held files.old declarations.now) (F.faults files.old) (F.faults files.new)) }
 {
     match read_file(alloc, files, declarations, MAX_FILE) {
         Ok(bytes) => {
-            let answer = judge(alloc, text, bytes.as_slice())?;
+            let answer = judge(alloc, text, bytes.as_slice(), effort)?;
             Ok(answer)
         }
         Err(fault) => {

@@ -9,6 +9,7 @@ mod output;
 mod units;
 
 use command::run_command;
+use sat_core::Effort;
 use std::env;
 use std::io::ErrorKind;
 use std::process::ExitCode;
@@ -30,7 +31,14 @@ fn main(rt: HostRuntime) -> ExitCode {
     }
     let mut files = HostFiles::new(&rt);
     let mut out = HostSink::new(&rt);
-    ExitCode::from(run_command(rt.alloc(), words.as_slice(), &mut files, &mut out))
+    let mut effort = Effort::new();
+    ExitCode::from(run_command(
+        rt.alloc(),
+        words.as_slice(),
+        &mut files,
+        &mut out,
+        &mut effort,
+    ))
 }
 
 #[cfg(test)]

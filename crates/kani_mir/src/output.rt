@@ -1,12 +1,12 @@
 ghost use Rattle.std.specs.Prelude.{◌≡◌, ◌++◌, IfOk, List, ℕ, codes, string_bytes};
 ghost use Rattle.front_end.specs.Lines.{refusal_text};
-ghost use Rattle.verdicts.specs.Report.{line};
-ghost use Rattle.kani_mir.specs.Command.{all_units_succeed, name_in, status_of, text_of, words_of};
+ghost use Rattle.unit_reports.specs.Report.{line};
+ghost use Rattle.kani_mir.specs.Command.{all_units_succeed, is_successful, name_in, status_of, text_of, words_of};
 
 use crate::answer::{Answer, FileWord};
 use front_end::{Refusal, refusal_text};
 use std::alloc::Global;
-use verdicts::{UnitReport, all_succeed, report_text};
+use unit_reports::{UnitReport, Verdict, report_text, verdict_of};
 use vk_core::NoMemory;
 
 /// The status that the program ends with after an answer.
@@ -30,13 +30,19 @@ pub fn status_of(answer: &Answer) -> u8
     }
 }
 
+fn is_successful(report: &UnitReport) -> bool
+    ensures { result ≡ is_successful report.now }
+{
+    matches!(verdict_of(report.statuses.as_slice()), Verdict::Successful)
+}
+
 fn all_units_succeed(reports: &[UnitReport]) -> bool
     ensures { result ≡ all_units_succeed reports.now }
 {
     match reports {
         [] => true,
         [report, rest @ ..] => {
-            if all_succeed(report.statuses.as_slice()) {
+            if is_successful(report) {
                 all_units_succeed(rest)
             } else {
                 false

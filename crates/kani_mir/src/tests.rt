@@ -1,4 +1,5 @@
 use crate::command::run_command;
+use sat_core::Effort;
 use std::alloc::{AllocError, Global};
 use std::test::Fail;
 use vk_files::{MemoryFiles, MemorySink};
@@ -10,6 +11,8 @@ const SMALL: &[u8] =
 
 const NOT_200: &[u8] =
     b"fn check() -> () { let _1: u8; let _2: bool; let _3: (); bb0: { _1 = kani::any::<u8>() -> bb1; } bb1: { _2 = Ne(copy _1, const 200_u8); _3 = kani::assert(move _2, const \"not 200\") -> bb2; } bb2: { return; } }";
+
+const LOOP: &[u8] = b"fn check() -> () { bb0: { goto -> bb0; } }";
 
 const THREE_CHOICES: &[u8] =
     b"fn check() -> () { let _1: u8; let _2: bool; let _3: (); bb0: { _1 = kani::any::<u8>() -> bb1; } bb1: { _1 = kani::any::<u8>() -> bb2; } bb2: { _1 = kani::any::<u8>() -> bb3; } bb3: { _2 = Le(copy _1, const 255_u8); _3 = kani::assert(move _2, const \"small\") -> bb4; } bb4: { return; } }";
@@ -50,14 +53,21 @@ fn each_text_is_answered(rt: HostRuntime) -> Result<(), Fail> {
     for (mir, declarations, failing, status, output) in [
         (SMALL, "a.toml", [].as_slice(), 0, SUCCESSFUL),
         (NOT_200, "a.toml", [].as_slice(), 1, FAILED),
-        (THREE_CHOICES, "a.toml", [].as_slice(), 2, NOT_BUILT),
+        (THREE_CHOICES, "a.toml", [].as_slice(), 0, SUCCESSFUL),
+        (LOOP, "a.toml", [].as_slice(), 2, NOT_BUILT),
         (SMALL, "b.toml", [].as_slice(), 4, NO_FILE),
         (SMALL, "a.toml", [1].as_slice(), 4, READ_FAULT),
     ] {
         let words = words(alloc, declarations)?;
         let mut files = files(alloc, mir, failing)?;
         let mut out = MemorySink::new(alloc, 1000, Vec::new(alloc), 100)?;
-        let ended = run_command(alloc, words.as_slice(), &mut files, &mut out);
+        let ended = run_command(
+            alloc,
+            words.as_slice(),
+            &mut files,
+            &mut out,
+            &mut Effort::new(),
+        );
         assert_eq!(rt; ended, status);
         assert_eq!(rt; out.written(), output);
     }
@@ -70,7 +80,13 @@ fn a_failing_sink_holds_the_first_bytes(rt: HostRuntime) -> Result<(), Fail> {
     let words = words(alloc, "a.toml")?;
     let mut files = files(alloc, SMALL, &[])?;
     let mut out = MemorySink::new(alloc, 1000, [2].to_vec(alloc)?, 10)?;
-    let ended = run_command(alloc, words.as_slice(), &mut files, &mut out);
+    let ended = run_command(
+        alloc,
+        words.as_slice(),
+        &mut files,
+        &mut out,
+        &mut Effort::new(),
+    );
     assert_eq!(rt; ended, 5);
     assert_eq!(rt; out.written(), b"Checking h".as_slice());
     Ok(())

@@ -1,49 +1,40 @@
-ghost use Rattle.std.specs.Prelude.{◌≡◌, All, IfOk, IsSome, option_copied};
+ghost use Rattle.std.specs.Prelude.{◌≡◌, ◌≤◌, All, IfOk, IsSome, true};
+ghost use Rattle.std.specs.List.{list_all};
+ghost use Rattle.scalar_form.specs.Form.{is_scalar};
 ghost use Rattle.type_rules.specs.Lookup.{function_named};
 ghost use Rattle.typed_program.specs.WellTyped.{IsWellTyped};
 ghost use Rattle.kani_mir.specs.Told.{IsKnown};
-ghost use Rattle.kani_mir.specs.Units.{AreReports, HasFirstForm, IsBuilt, IsFormNamed, IsReportOf};
+ghost use Rattle.kani_mir.specs.Units.{AreReports, IsBuilt, IsReportOf};
 
-use first_form::first_form;
 use mir_ir::{Function, Unit};
 use mir_program::Program;
 use name_tables::Table;
+use sat_core::Effort;
+use scalar_verdicts::verify_scalar;
 use sqlite_items::Items;
 use std::alloc::Global;
-use verdicts::{UnitReport, verify_by_trying};
+use unit_reports::UnitReport;
 use vk_core::{Name, NoMemory};
 
-/// The function of this name in the first form.
-fn form_named<'a>(
-    alloc: Global,
-    functions: &Table<'a, Function>,
-    name: &[u8],
-) -> Result<form_ir::Function, NoMemory>
-    requires known { IsSome (function_named functions.now name.now) }
-    requires forms { All HasFirstForm functions.now }
-    ensures { IfOk result (IsFormNamed functions.now name.now) }
-{
-    let Some(function) = functions.find(name) else {
-        unreachable!();
-    };
-    match first_form(alloc, function)? {
-        Some(form) => Ok(form),
-        None => unreachable!(),
-    }
-}
+/// The command sets no budget for the solver.
+const NO_BUDGET: u64 = 0xFFFF_FFFF_FFFF_FFFF;
 
 fn report_of<'a>(
     alloc: Global,
     functions: &Table<'a, Function>,
     unit: &Unit,
+    effort: &mut Effort,
 ) -> Result<UnitReport, NoMemory>
     requires known { IsKnown functions.now unit.now }
-    requires forms { All HasFirstForm functions.now }
-    ensures { IfOk result (IsReportOf functions.now unit.now) }
+    requires forms { list_all is_scalar functions.now ≡ true }
+    ensures report { IfOk result (IsReportOf functions.now unit.now) }
+    ensures later { effort.old ≤ effort.new }
 {
-    let form = form_named(alloc, functions, unit.name.as_bytes())?;
+    let Some(function) = functions.find(unit.name.as_bytes()) else {
+        unreachable!();
+    };
     let harness = Name::from_bytes(alloc, unit.name.as_bytes())?;
-    let statuses = verify_by_trying(alloc, &form)?;
+    let statuses = verify_scalar(alloc, function, NO_BUDGET, effort)?;
     Ok(UnitReport { harness, statuses })
 }
 
@@ -51,15 +42,17 @@ fn reports_on<'a>(
     alloc: Global,
     functions: &Table<'a, Function>,
     units: &[Unit],
+    effort: &mut Effort,
 ) -> Result<Items<UnitReport>, NoMemory>
     requires known { All (IsKnown functions.now) units.now }
-    requires forms { All HasFirstForm functions.now }
-    ensures { IfOk result (AreReports functions.now units.now) }
+    requires forms { list_all is_scalar functions.now ≡ true }
+    ensures reports { IfOk result (AreReports functions.now units.now) }
+    ensures later { effort.old ≤ effort.new }
 {
     let mut reports = Items::new(alloc);
     let mut left = units;
     while let [unit, rest @ ..] = left {
-        let report = report_of(alloc, functions, unit)?;
+        let report = report_of(alloc, functions, unit, effort)?;
         reports.push(report)?;
         left = rest;
     }
@@ -67,12 +60,22 @@ fn reports_on<'a>(
 }
 
 /// The reports on the units of a program, in their order.
-pub fn reports_of(alloc: Global, program: &Program) -> Result<Items<UnitReport>, NoMemory>
+pub fn reports_of(
+    alloc: Global,
+    program: &Program,
+    effort: &mut Effort,
+) -> Result<Items<UnitReport>, NoMemory>
     requires typed { IsWellTyped program.now }
     requires built { IsBuilt program.now }
-    ensures { IfOk result (AreReports program.now.functions program.now.declarations.units) }
+    ensures reports { IfOk result (AreReports program.now.functions program.now.declarations.units) }
+    ensures later { effort.old ≤ effort.new }
 {
     let functions = Table::new(alloc, program.functions())?;
-    let reports = reports_on(alloc, &functions, program.declarations().units.as_slice())?;
+    let reports = reports_on(
+        alloc,
+        &functions,
+        program.declarations().units.as_slice(),
+        effort,
+    )?;
     Ok(reports)
 }

@@ -25,7 +25,32 @@ pub enum TypeFault {
 }
 
 /// The first refusal in the entries of the declarations, and then in the functions in their order.
-#[tactic(auto, unfolding(type_rules::specs::Entries::typing))]
+fn first_refusal<'a>(
+    alloc: Global,
+    functions: &Functions<'a>,
+    declared: &Declared<'a>,
+) -> Result<Result<(), Refusal>, NoMemory>
+    ensures { IfOk result (λ fits. fits ≡ typing functions.now declared.now) }
+{
+    let entries = declarations_fit(alloc, functions, declared)?;
+    match entries {
+        Ok(()) => functions_fit(alloc, functions.table(), declared),
+        Err(refusal) => Ok(Err(refusal)),
+    }
+}
+
+fn typing_by<'a>(
+    alloc: Global,
+    functions: &'a [Function],
+    declared: &Declared<'a>,
+) -> Result<Result<(), Refusal>, NoMemory>
+    ensures { IfOk result (λ fits. fits ≡ typing functions.now declared.now) }
+{
+    let named = Functions::new(alloc, functions)?;
+    let fits = first_refusal(alloc, &named, declared)?;
+    Ok(fits)
+}
+
 fn typing(
     alloc: Global,
     functions: &[Function],
@@ -34,14 +59,8 @@ fn typing(
     ensures { IfOk result (λ fits. fits ≡ typing functions.now declarations.now) }
 {
     let declared = Declared::new(alloc, declarations)?;
-    let named = Functions::new(alloc, functions)?;
-    match declarations_fit(alloc, &named, &declared)? {
-        Ok(()) => {
-            let fits = functions_fit(alloc, named.table(), &declared)?;
-            Ok(fits)
-        }
-        Err(refusal) => Ok(Err(refusal)),
-    }
+    let fits = typing_by(alloc, functions, &declared)?;
+    Ok(fits)
 }
 
 /// The program with its types numbered, where they fit; else the first refusal: of the entries of the declarations in their order, and

@@ -22,7 +22,7 @@ use Rattle.mir_ir.specs.declared.tree.Statement.{Statement}
 use Rattle.mir_ir.specs.declared.tree.Statement.TheVariants as statement
 use Rattle.mir_ir.specs.declared.tree.Terminator.{Terminator}
 use Rattle.mir_ir.specs.declared.tree.Terminator.TheVariants as terminator
-use Rattle.scalar_form.specs.declared.checks.Breach.{Breach}
+use Rattle.scalar_form.specs.declared.breach.Breach.{Breach}
 use Rattle.scalar_form.specs.declared.kinds.Choice.{Choice}
 use Rattle.scalar_form.specs.declared.kinds.ValueKind.{ValueKind}
 use Rattle.scalar_form.specs.declared.kinds.ValueKind.TheVariants as kind

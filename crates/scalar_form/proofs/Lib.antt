@@ -1,4 +1,3 @@
 mod Examples
 pub mod FormLaws
 pub mod OperandLaws
-pub mod Pushes

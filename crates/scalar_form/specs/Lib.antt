@@ -1,5 +1,4 @@
 pub mod Builtins
-pub mod Checks
 pub mod Engine
 pub mod Form
 pub mod Kinds

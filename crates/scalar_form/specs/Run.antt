@@ -16,7 +16,7 @@ use Rattle.scalar_form.specs.declared.kinds.Choice.{Choice}
 use Rattle.scalar_form.specs.declared.kinds.ValueKind.{ValueKind}
 use Rattle.scalar_form.specs.declared.builtins.Builtin.{Builtin}
 use Rattle.scalar_form.specs.declared.builtins.Builtin.TheVariants as builtin
-use Rattle.scalar_form.specs.declared.checks.Breach.{Breach}
+use Rattle.scalar_form.specs.declared.breach.Breach.{Breach}
 use Rattle.scalar_form.specs.Builtins.{builtin_of}
 use Rattle.scalar_form.specs.Kinds.{is_choice_of}
 use Rattle.scalar_form.specs.Look.{block_of, locals_end}

@@ -1,8 +1,8 @@
-//! The scalar form of functions: which functions are of it, what their runs are, and which checks they have.
+//! The scalar form of functions: which functions are of it, and what their runs are.
 #![tactic(auto)]
 
+mod breach;
 mod builtins;
-mod checks;
 mod form;
 mod kinds;
 mod look;
@@ -12,8 +12,8 @@ mod step;
 mod typing;
 mod values;
 
+pub use breach::Breach;
 pub use builtins::{Builtin, builtin_of};
-pub use checks::{Breach, Check, checks_of};
 pub use form::is_scalar;
 pub use kinds::{Choice, ValueKind, kind_of};
 pub use look::{block_of, blocks_end, local_kind, locals_end};

@@ -21,12 +21,10 @@ fn mark(marks: &mut [bool], target: BlockId)
 fn mark_arms(marks: &mut [bool], arms: &[Arm])
     ensures { marks.new ≡ marked_arms marks.old arms.now }
 {
-    match arms {
-        [] => {}
-        [arm, rest @ ..] => {
-            mark(marks, arm.target);
-            mark_arms(marks, rest);
-        }
+    let mut left = arms;
+    while let [arm, rest @ ..] = left {
+        mark(marks, arm.target);
+        left = rest;
     }
 }
 

@@ -268,17 +268,24 @@ fn has_number(arms: &[Arm], number: u128) -> bool
 fn are_arms(function: &Function, from: u32, width: u32, arms: &[Arm]) -> bool
     ensures { result ≡ are_arms function.now from width arms.now }
 {
-    match arms {
-        [] => true,
-        [arm, rest @ ..] => {
-            is_word(Word {
-                width,
-                value: arm.number,
-            }) && is_target(function, from, arm.target)
-                && !has_number(rest, arm.number)
-                && are_arms(function, from, width, rest)
+    let mut left = arms;
+    while let [arm, rest @ ..] = left {
+        let word = Word {
+            width,
+            value: arm.number,
+        };
+        if !is_word(word) {
+            return false;
         }
+        if !is_target(function, from, arm.target) {
+            return false;
+        }
+        if has_number(rest, arm.number) {
+            return false;
+        }
+        left = rest;
     }
+    true
 }
 
 fn is_switch(
@@ -307,12 +314,14 @@ fn is_truth(function: &Function, operand: &Operand) -> bool
 fn are_shown(function: &Function, operands: &[Operand]) -> bool
     ensures { result ≡ are_shown function.now operands.now }
 {
-    match operands {
-        [] => true,
-        [operand, rest @ ..] => {
-            operand_kind(function, operand).is_some() && are_shown(function, rest)
+    let mut left = operands;
+    while let [operand, rest @ ..] = left {
+        if operand_kind(function, operand).is_none() {
+            return false;
         }
+        left = rest;
     }
+    true
 }
 
 fn is_text(operand: &Operand) -> bool
@@ -471,12 +480,14 @@ fn is_terminator(function: &Function, from: u32, last: &Terminator) -> bool
 fn are_statements(function: &Function, statements: &[Statement]) -> bool
     ensures { result ≡ are_statements function.now statements.now }
 {
-    match statements {
-        [] => true,
-        [statement, rest @ ..] => {
-            is_statement(function, statement) && are_statements(function, rest)
+    let mut left = statements;
+    while let [statement, rest @ ..] = left {
+        if !is_statement(function, statement) {
+            return false;
         }
+        left = rest;
     }
+    true
 }
 
 fn is_block(function: &Function, block: &Block) -> bool

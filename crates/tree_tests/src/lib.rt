@@ -8,6 +8,8 @@ mod of_mir_program;
 #[cfg(test)]
 mod of_scalar_form;
 #[cfg(test)]
+mod of_scalar_terms;
+#[cfg(test)]
 mod of_type_rules;
 #[cfg(test)]
 mod of_value_terms;

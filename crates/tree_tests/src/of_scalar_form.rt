@@ -1,4 +1,5 @@
 use mir_ir::{Block, Function, Local, Terminator, Ty};
+use scalar_checks::checks_of;
 use scalar_form::*;
 use sqlite_items::Items;
 use std::alloc::Global;

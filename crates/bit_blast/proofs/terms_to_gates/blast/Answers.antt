@@ -14,7 +14,7 @@ blast_terms-requires-clause-places c =
     let places : c.as_slice-2.result.now ≡ c.in_ok-bits.field-0.places.items = c.as_slice-2.ensures.value in
     let count : c.len.result ≡ length c.in_ok-bits.field-0.bits.items = omega (arith, c.in_ok-bits.field-0.bits.ok.0) in
     room_made c.in_ok-net.net c.args.terms.now c.in_ok-widths.widths.items c.as_slice.result.now c.in_ok-bits.field-0.places.items c.as_slice-2.result.now c.in_ok-bits.field-0.bits.items c.len.result
-    c.len-count.ensures.fitting c.in_ok-widths.ensures c.as_slice.ensures.value c.in_ok-bits.ensures places c.in_ok-net.ensures count
+    c.len-count.ensures.fitting c.in_ok-widths.ensures.have c.as_slice.ensures.value c.in_ok-bits.ensures places c.in_ok-net.ensures count
 
 pub trim-requires-clause-roots : goal.trim-requires-clause-roots
 trim-requires-clause-roots c =
@@ -29,7 +29,7 @@ returns c =
     let count : c.len.result ≡ length c.in_ok-bits.field-0.bits.items = omega (arith, c.in_ok-bits.field-0.bits.ok.0) in
     let inputs : c.blast_terms.new.net.inputs ≡ length c.in_ok-bits.field-0.bits.items = c.in_ok-table.ensures.0 ∙ ap (λ (k : Circuit). k.inputs) c.in_ok-net.ensures ∙ count in
     gates_made c.blast_terms.new.net c.args.terms.now c.args.roots.now c.in_ok-widths.widths.items c.in_ok-bits.field-0.places.items c.in_ok-marks.marks.items c.in_ok-table.table.blocks (map (λ (w : Vec ℕ Global). w.items) c.in_ok-words.words.items) _
-    inputs c.len-count.ensures.fitting c.in_ok-widths.ensures
+    inputs c.len-count.ensures.fitting c.in_ok-widths.ensures.have c.in_ok-widths.ensures.few
     (subst (λ (k : List ℕ). ArePlaced k c.in_ok-bits.field-0.bits.items c.in_ok-bits.field-0.places.items) c.as_slice.ensures.value c.in_ok-bits.ensures)
     c.in_ok-marks.ensures.one_each c.in_ok-marks.ensures.reached
     (table_seen c.blast_terms.new.net c.args.terms.now c.as_slice-2.result.now c.in_ok-bits.field-0.places.items c.as_slice-3.result.now c.in_ok-marks.marks.items c.in_ok-table.table.blocks places c.as_slice-3.ensures.value c.in_ok-table.ensures.1)

@@ -1,4 +1,0 @@
-pub mod Bits
-pub mod DifferSteps
-pub mod EachSteps
-pub mod FirstLeft

@@ -1,3 +1,0 @@
-pub mod First
-pub mod Formed
-pub mod Rules

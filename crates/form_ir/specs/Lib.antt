@@ -1,4 +1,0 @@
-pub mod Builtins
-pub mod Kinds
-pub mod Look
-pub mod Run

@@ -1,0 +1,4 @@
+pub mod Listed
+pub mod Operands
+pub mod Pushes
+pub mod Runs

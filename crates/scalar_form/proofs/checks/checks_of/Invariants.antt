@@ -1,6 +1,0 @@
-use Rattle.std.proofs.Common.{◌≡◌}
-use Rattle.scalar_form.specs.Checks.{checks_below}
-use Rattle.scalar_form.proofs.checks.checks_of.Given as goal
-
-abbrev pub invariant-loop-number : goal.invariant-loop-number
-invariant-loop-number l = l.checks.items ≡ checks_below l.function l.number

@@ -1,5 +1,0 @@
-use Rattle.std.proofs.Common.{length}
-use Rattle.scalar_form.proofs.typing.+are_statements.Given as goal
-
-abbrev pub decreases-are_statements : goal.decreases-are_statements
-decreases-are_statements l = length l.statements.now

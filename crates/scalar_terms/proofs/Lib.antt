@@ -1,0 +1,17 @@
+pub mod AheadLaws
+pub mod ChoiceLaws
+pub mod FaultLaws
+pub mod JoinLaws
+pub mod LedLaws
+pub mod ListLaws
+pub mod MergeLaws
+pub mod ReachedLaws
+pub mod ReplayLaws
+pub mod RunLaws
+pub mod StartLaws
+pub mod StepLaws
+pub mod SweepLaws
+pub mod SwitchLaws
+pub mod TestLaws
+pub mod TurnLaws
+pub mod WayLaws

@@ -1,0 +1,13 @@
+pub mod Ends
+pub mod Faults
+pub mod Joins
+pub mod Oracle
+pub mod Picks
+pub mod Places
+pub mod Replays
+pub mod Starts
+pub mod Steps
+pub mod Sweeps
+pub mod Switches
+pub mod Tests
+pub mod Ways

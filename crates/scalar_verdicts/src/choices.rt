@@ -1,0 +1,164 @@
+ghost use Rattle.std.specs.Prelude.{◌≡◌, ◌*◌, ◌<◌, ◌≤◌, ◌^◌, false, get_or, min, nat_le};
+ghost use Rattle.scalar_form.specs.Look.{block_of};
+ghost use Rattle.scalar_form.specs.Size.{first_reached, marked, marked_arms, marked_block, marked_by, marked_next};
+ghost use Rattle.scalar_verdicts.specs.Choices.{block_choices, called_choices, choices_of, terminator_choices, values_of};
+
+use mir_ir::{Arm, Function, Terminator};
+use scalar_form::{Builtin, ValueKind, block_of, blocks_end, builtin_of};
+use vk_core::BlockId;
+
+/// No budget that can be spent is so large.
+pub const MANY: u64 = 1 << 60;
+
+/// The blocks that a function can have: a number of a block is at most 4095.
+const BLOCKS: usize = 4096;
+
+/// How many words of so many bits there are, or `MANY` where there are more.
+fn words(width: u32) -> u64
+    ensures { result ≡ min (2 ^ width) (2 ^ 60) }
+{
+    if width < 60 { 1 << width } else { MANY }
+}
+
+/// How many values the kind has, or `MANY`.
+fn values(kind: ValueKind) -> u64
+    ensures { result ≡ min (values_of kind) (2 ^ 60) }
+{
+    match kind {
+        ValueKind::Bool => words(1),
+        ValueKind::Char => 1_112_064,
+        ValueKind::Int(int) => words(int.width()),
+        ValueKind::Unit => words(1),
+        ValueKind::Never => words(1),
+    }
+}
+
+fn called_choices(called: Option<Builtin>) -> u64
+    ensures { result ≡ min (called_choices called) (2 ^ 60) }
+{
+    match called {
+        None => 1,
+        Some(builtin) => match builtin {
+            Builtin::Any(kind) => values(kind),
+            Builtin::Assume => 1,
+            Builtin::Assert => 1,
+            Builtin::Panic => 1,
+        },
+    }
+}
+
+fn terminator_choices(last: &Terminator) -> u64
+    ensures { result ≡ min (terminator_choices last.now) (2 ^ 60) }
+{
+    match last {
+        Terminator::Goto { .. } => 1,
+        Terminator::Switch { .. } => 1,
+        Terminator::Return => 1,
+        Terminator::Unreachable => 1,
+        Terminator::Drop { .. } => 1,
+        Terminator::Assert { .. } => 1,
+        Terminator::Call { callee, .. } => called_choices(builtin_of(callee)),
+    }
+}
+
+fn mark(marks: &mut [bool], target: BlockId)
+    ensures { marks.new ≡ marked marks.old target }
+{
+    let at = target.0 as usize;
+    if at < marks.len() {
+        marks[at] = true;
+    }
+}
+
+fn mark_arms(marks: &mut [bool], arms: &[Arm])
+    ensures { marks.new ≡ marked_arms marks.old arms.now }
+{
+    for arm in arms {
+        mark(marks, arm.target);
+    }
+}
+
+fn mark_next(marks: &mut [bool], next: Option<BlockId>)
+    ensures { marks.new ≡ marked_next marks.old next }
+{
+    match next {
+        None => {}
+        Some(next) => mark(marks, next),
+    }
+}
+
+/// Marks the blocks that the terminator goes to.
+fn mark_targets(marks: &mut [bool], last: &Terminator)
+    ensures { marks.new ≡ marked_by marks.old last.now }
+{
+    match last {
+        Terminator::Goto { target } => mark(marks, *target),
+        Terminator::Switch {
+            arms,
+            otherwise,
+            ..
+        } => {
+            mark_arms(marks, arms.as_slice());
+            mark(marks, *otherwise);
+        }
+        Terminator::Return | Terminator::Unreachable => {}
+        Terminator::Drop { next, .. } => mark(marks, *next),
+        Terminator::Assert { next, .. } => mark(marks, *next),
+        Terminator::Call { next, .. } => mark_next(marks, *next),
+    }
+}
+
+#[tactic(auto, unfolding(scalar_form::specs::Size::first_reached))]
+fn first_reached() -> [bool; BLOCKS]
+    ensures { result ≡ first_reached }
+{
+    let mut marks = [false; BLOCKS];
+    marks[0] = true;
+    marks
+}
+
+/// In how many ways the block with this number chooses, and marks the blocks that it goes to, where it is reached.
+fn visit(function: &Function, marks: &mut [bool], number: usize) -> u64
+    requires { number < 2 ^ 32 }
+    ensures ways { result ≡ min (block_choices (get_or marks.old number false) (block_of function.now number)) (2 ^ 60) }
+    ensures marks { marks.new ≡ marked_block marks.old number (block_of function.now number) }
+{
+    let is_reached = match marks.get(number) {
+        Some(mark) => *mark,
+        None => false,
+    };
+    match block_of(function, BlockId(number as u32)) {
+        None => 1,
+        Some(block) => {
+            if is_reached {
+                mark_targets(marks, &block.terminator);
+                terminator_choices(&block.terminator)
+            } else {
+                1
+            }
+        }
+    }
+}
+
+/// The product, or `MANY`.
+fn times(a: u64, b: u64) -> u64
+    requires first { a ≤ 2 ^ 60 }
+    requires second { b ≤ 2 ^ 60 }
+    ensures { result ≡ min (a * b) (2 ^ 60) }
+{
+    (a as u128 * b as u128).min(MANY as u128) as u64
+}
+
+/// Whether there are at most as many ways to give each choice a value as the budget.
+#[tactic(auto, unfolding(crate::specs::Choices::choices_of))]
+pub fn are_few(function: &Function, budget: u64) -> bool
+    requires { budget < 2 ^ 60 }
+    ensures { result ≡ nat_le (choices_of function.now) budget }
+{
+    let mut marks = first_reached();
+    let mut ways: u64 = 1;
+    for number in 0..blocks_end(function.blocks.as_slice()) {
+        ways = times(ways, visit(function, &mut marks, number));
+    }
+    ways <= budget
+}

@@ -1,5 +1,0 @@
-use Rattle.std.proofs.Common.{length}
-use Rattle.verdicts.proofs.explore.+finding_of.Given as goal
-
-abbrev pub decreases-finding_of : goal.decreases-finding_of
-decreases-finding_of l = length l.found.now

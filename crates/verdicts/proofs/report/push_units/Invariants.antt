@@ -1,6 +1,0 @@
-use Rattle.std.proofs.Common.{◌≡◌, ◌++◌, drop}
-use Rattle.verdicts.specs.Report.{units_lines}
-use Rattle.verdicts.proofs.report.push_units.Given as goal
-
-abbrev pub invariant-loop-report : goal.invariant-loop-report
-invariant-loop-report l = l.out.items ++ units_lines (drop l.report-index l.reports) ≡ l.initial.out.items ++ units_lines l.reports

@@ -1,7 +1,0 @@
-use Rattle.std.proofs.Common.{rules, append_assoc}
-use Rattle.verdicts.specs.Report.{report_of}
-use Rattle.verdicts.proofs.report.report_text.Goals as goal
-
-pub returns : goal.returns
-unfolding report_of
-returns c = search (rules, append_assoc)

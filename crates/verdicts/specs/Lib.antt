@@ -1,6 +1,0 @@
-pub mod Checks
-pub mod Engine
-pub mod Findings
-pub mod Runnable
-pub mod Report
-pub mod Statuses
