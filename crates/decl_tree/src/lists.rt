@@ -3,6 +3,7 @@ ghost use Rattle.toml.specs.Data.{Data};
 ghost use Rattle.toml.specs.View.{view, items_view};
 ghost use Rattle.decl_tree.specs.declared.fault.KeyFault.{KeyFault};
 ghost use Rattle.decl_tree.specs.declared.labels.Label.{Label};
+ghost use Rattle.decl_tree.specs.Faults.{under, item_step};
 ghost use Rattle.decl_tree.specs.Lists.{fresh, each, list_at};
 
 use crate::fault::{DeclKind, KeyFault, Read};
@@ -40,6 +41,24 @@ fn fresh<A: Drop>(alloc: Global, seen: &mut Seen, read: Result<(A, Labels), KeyF
     }
 }
 
+/// The element at a place, whose labels are seen from here on; its faults are told with the step that leads to it.
+fn one<R: Element>(
+    alloc: Global,
+    reader: &R,
+    seen: &mut Seen,
+    at: usize,
+    value: &Value,
+) -> Read<R::Out>
+where
+    R::Out: Drop,
+    ensures ok { IfOk result (λ told. IfOk told (λ entry. under (item_step at) (fresh seen.old (R.meaning reader.now at (view value.now))) ≡ Ok (entry, seen.new))) }
+    ensures err { IfOk result (λ told. IfErr told (λ fault. under (item_step at) (fresh seen.old (R.meaning reader.now at (view value.now))) ≡ Err fault)) }
+{
+    let read = reader.read(alloc, at, value)?;
+    let read = fresh(alloc, seen, read)?;
+    under_item(alloc, at, read)
+}
+
 /// The elements of a list, up to the first fault.
 pub fn each<R: Element>(alloc: Global, reader: &R, items: &[Value]) -> Read<Items<R::Out>>
 where
@@ -51,9 +70,7 @@ where
     let mut at = 0;
     let mut left = items;
     while let [value, rest @ ..] = left {
-        let read = reader.read(alloc, at, value)?;
-        let read = fresh(alloc, &mut seen, read)?;
-        match under_item(alloc, at, read)? {
+        match one(alloc, reader, &mut seen, at, value)? {
             Ok(entry) => out.push(entry)?,
             Err(fault) => return Ok(Err(fault)),
         }

@@ -1,4 +1,4 @@
-ghost use Rattle.std.specs.Prelude.{◌≡◌, ◌++◌, IfOk, OnOk};
+ghost use Rattle.std.specs.Prelude.{◌≡◌, ◌++◌, Err, IfOk, IsOkAnd, OnOk};
 ghost use Rattle.std.specs.Fmt.{decimal};
 ghost use Rattle.decl_tree.specs.Faults.{here, under, key_step, item_step};
 
@@ -42,6 +42,28 @@ pub fn under<A>(alloc: Global, step: &[u8], read: Result<A, KeyFault>) -> Read<A
     }
 }
 
+/// A fault inside, with the step that leads inside.
+fn behind<A>(alloc: Global, step: Result<Vec<u8>, NoMemory>, fault: KeyFault) -> Read<A>
+    ensures { IfOk result (λ told. IsOkAnd step (λ s. told ≡ under s.items (Err fault))) }
+{
+    let step = step?;
+    let path = led_by(alloc, step.as_slice(), &fault.path)?;
+    Ok(Err(KeyFault {
+        kind: fault.kind,
+        path,
+    }))
+}
+
+/// The step to what a key holds.
+fn key_step(alloc: Global, key: &str) -> Result<Vec<u8>, NoMemory>
+    ensures { IfOk result (λ step. step.items ≡ key_step key.now) }
+{
+    let mut step = Vec::new(alloc);
+    step.push(b'.')?;
+    step.extend_from_slice(key.as_bytes())?;
+    Ok(step)
+}
+
 /// The same of what a key holds.
 pub fn under_key<A>(alloc: Global, key: &str, read: Result<A, KeyFault>) -> Read<A>
     ensures { IfOk result (λ told. told ≡ under (key_step key.now) read) }
@@ -49,16 +71,22 @@ pub fn under_key<A>(alloc: Global, key: &str, read: Result<A, KeyFault>) -> Read
     match read {
         Ok(value) => Ok(Ok(value)),
         Err(fault) => {
-            let mut step = Vec::new(alloc);
-            step.push(b'.')?;
-            step.extend_from_slice(key.as_bytes())?;
-            let path = led_by(alloc, step.as_slice(), &fault.path)?;
-            Ok(Err(KeyFault {
-                kind: fault.kind,
-                path,
-            }))
+            let step = key_step(alloc, key);
+            behind(alloc, step, fault)
         }
     }
+}
+
+/// The step to an element of a list.
+fn item_step(alloc: Global, at: usize) -> Result<Vec<u8>, NoMemory>
+    ensures { IfOk result (λ step. step.items ≡ item_step at) }
+{
+    let mut buffer = Buffer::new();
+    let mut step = Vec::new(alloc);
+    step.push(b'[')?;
+    step.extend_from_slice(buffer.format(at).as_bytes())?;
+    step.push(b']')?;
+    Ok(step)
 }
 
 /// The same of an element of a list.
@@ -68,16 +96,8 @@ pub fn under_item<A>(alloc: Global, at: usize, read: Result<A, KeyFault>) -> Rea
     match read {
         Ok(value) => Ok(Ok(value)),
         Err(fault) => {
-            let mut buffer = Buffer::new();
-            let mut step = Vec::new(alloc);
-            step.push(b'[')?;
-            step.extend_from_slice(buffer.format(at).as_bytes())?;
-            step.push(b']')?;
-            let path = led_by(alloc, step.as_slice(), &fault.path)?;
-            Ok(Err(KeyFault {
-                kind: fault.kind,
-                path,
-            }))
+            let step = item_step(alloc, at);
+            behind(alloc, step, fault)
         }
     }
 }
