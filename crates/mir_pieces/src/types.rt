@@ -133,20 +133,47 @@ fn types_of(alloc: Global, names: Vec<Named>) -> Result<Vec<Ty>, NoMemory>
     Ok(types)
 }
 
-/// `before`, `text` and `after` in a row.
+/// `before`, `mark`, `text` and `after` in a row.
 fn text_between(
     alloc: Global,
     before: &[u8],
+    mark: &[u8],
     text: &[u8],
     after: &[u8],
 ) -> Result<Items<u8>, NoMemory>
-    ensures { IfOk result (λ all. all ≡ before.now ++ (text.now ++ after.now)) }
+    ensures { IfOk result (λ all. all ≡ before.now ++ (mark.now ++ (text.now ++ after.now))) }
 {
     let mut out = Vec::new(alloc);
     out.extend_from_slice(before)?;
+    out.extend_from_slice(mark)?;
     out.extend_from_slice(text)?;
     out.extend_from_slice(after)?;
     Ok(Items::from_vec(out))
+}
+
+/// The type of a named one, and whether its text is too long.
+fn type_and_length(named: Named) -> (Ty, bool)
+    ensures { result ≡ (named.ty, named.is_long) }
+{
+    let Named { ty, is_long, .. } = named;
+    (ty, is_long)
+}
+
+/// What stands in a longer type: the type in a box, the text between these, and whether it is too long. It alone lets go of
+/// a named type where memory is wanting.
+fn placed_between(
+    alloc: Global,
+    before: &[u8],
+    mark: &[u8],
+    named: Named,
+    after: &[u8],
+) -> Result<(Boxed<Ty>, Items<u8>, bool), NoMemory>
+    ensures { IfOk result (λ parts. parts ≡ (named.ty, before.now ++ (mark.now ++ (named.text ++ after.now)), named.is_long)) }
+{
+    let text = text_between(alloc, before, mark, named.text.as_slice(), after)?;
+    let (ty, is_long) = type_and_length(named);
+    let boxed = Boxed::new(alloc, ty)?;
+    Ok((boxed, text, is_long))
 }
 
 fn mut_where(mutable: bool) -> &'static [u8]
@@ -165,9 +192,7 @@ fn pointer_word(mutable: bool) -> &'static [u8]
 pub fn to_ref(alloc: Global, mutable: bool, target: Named) -> Result<Named, NoMemory>
     ensures { IfOk result (λ named. named ≡ to_ref (mutable, target)) }
 {
-    let text = text_between(alloc, b"&", mut_where(mutable), target.text.as_slice())?;
-    let Named { ty, is_long, .. } = target;
-    let target = Boxed::new(alloc, ty)?;
+    let (target, text, is_long) = placed_between(alloc, b"&", mut_where(mutable), target, b"")?;
     Ok(Named {
         ty: Ty::Ref { mutable, target },
         text,
@@ -181,9 +206,7 @@ pub fn to_ref(alloc: Global, mutable: bool, target: Named) -> Result<Named, NoMe
 pub fn to_raw(alloc: Global, mutable: bool, target: Named) -> Result<Named, NoMemory>
     ensures { IfOk result (λ named. named ≡ to_raw (mutable, target)) }
 {
-    let text = text_between(alloc, b"*", pointer_word(mutable), target.text.as_slice())?;
-    let Named { ty, is_long, .. } = target;
-    let target = Boxed::new(alloc, ty)?;
+    let (target, text, is_long) = placed_between(alloc, b"*", pointer_word(mutable), target, b"")?;
     Ok(Named {
         ty: Ty::Raw { mutable, target },
         text,
@@ -223,16 +246,32 @@ pub fn to_tuple(alloc: Global, names: Vec<Named>, comma: bool) -> Result<Named, 
     })
 }
 
+fn text_of(named: Named) -> Items<u8>
+    ensures { result ≡ named.text }
+{
+    let Named { text, .. } = named;
+    text
+}
+
+/// The name of a dyn type's path, and the text of the type.
+fn dyn_texts(alloc: Global, path: Items<u8>) -> Result<(Name, Items<u8>), NoMemory>
+    ensures { IfOk result (λ texts. texts ≡ (path, codes "dyn " ++ path)) }
+{
+    let text = text_between(alloc, b"dyn ", b"", path.as_slice(), b"")?;
+    let name = Name::from_bytes(alloc, path.as_slice())?;
+    Ok((name, text))
+}
+
 #[tactic(auto, unfolding(mir_grammar::specs::Names::to_dyn))]
 pub fn to_dyn(alloc: Global, path: Named) -> Result<Named, NoMemory>
     ensures { IfOk result (λ named. named ≡ to_dyn path) }
 {
-    let text = text_between(alloc, b"dyn ", path.text.as_slice(), b"")?;
-    let name = Name::from_bytes(alloc, path.text.as_slice())?;
+    let is_long = path.is_long;
+    let (name, text) = dyn_texts(alloc, text_of(path))?;
     Ok(Named {
         ty: Ty::Dyn(name),
         text,
-        is_long: path.is_long,
+        is_long,
         argument: None,
         start: 0,
     })
@@ -276,9 +315,7 @@ pub fn to_qualified(
 pub fn to_slice(alloc: Global, item: Named) -> Result<Named, NoMemory>
     ensures { IfOk result (λ named. named ≡ to_array (item, None)) }
 {
-    let text = text_between(alloc, b"[", item.text.as_slice(), b"]")?;
-    let Named { ty, is_long, .. } = item;
-    let item = Boxed::new(alloc, ty)?;
+    let (item, text, is_long) = placed_between(alloc, b"[", b"", item, b"]")?;
     Ok(Named {
         ty: Ty::Slice(item),
         text,
