@@ -16,7 +16,7 @@ use Rattle.type_rules.specs.Entries.{refused_in, typing, unit_function, units_fi
 use Rattle.type_rules.specs.Lookup.{function_named}
 use Rattle.std.specs.List.{list_all}
 use Rattle.scalar_form.specs.Form.{is_scalar}
-use Rattle.scalar_form.proofs.OperandLaws.{and_left, and_right, both_true}
+use Rattle.scalar_runs.proofs.OperandLaws.{and_left, and_right, both_true}
 use Rattle.unit_reports.specs.declared.status.UnitReport.{UnitReport}
 use Rattle.unit_reports.specs.declared.verdict.Verdict.{Verdict}
 use Rattle.unit_reports.specs.declared.verdict.Verdict.TheVariants as verdict

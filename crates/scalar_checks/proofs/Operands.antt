@@ -18,14 +18,14 @@ use Rattle.mir_ir.specs.declared.tree.Operand.TheVariants as operand
 use Rattle.mir_ir.specs.declared.tree.Rvalue.{Rvalue}
 use Rattle.mir_ir.specs.declared.tree.Rvalue.TheVariants as rvalue
 use Rattle.scalar_checks.specs.declared.checks.Check.{Check}
-use Rattle.scalar_form.specs.declared.kinds.ValueKind.{ValueKind}
-use Rattle.scalar_form.specs.declared.kinds.ValueKind.TheVariants as kind
+use Rattle.scalar_runs.specs.declared.kinds.ValueKind.{ValueKind}
+use Rattle.scalar_runs.specs.declared.kinds.ValueKind.TheVariants as kind
 use Rattle.scalar_checks.specs.Checks.{assign_checks, memory_checks}
-use Rattle.scalar_form.specs.Kinds.{is_word, kind_of, width_of_kind}
-use Rattle.scalar_form.specs.Look.{local_kind}
-use Rattle.scalar_form.specs.Operators.{are_operands, binary_value, cast_value, lawful, operated, operator_value, recast_value, unary_value}
-use Rattle.scalar_form.specs.Run.{Configuration, breach_at}
-use Rattle.scalar_form.specs.Values.{Values, held_value, is_signed_operand, operand_value, read_as, rvalue_value, word_of_constant}
+use Rattle.scalar_runs.specs.Kinds.{is_word, kind_of, width_of_kind}
+use Rattle.scalar_runs.specs.Look.{local_kind}
+use Rattle.scalar_runs.specs.Operators.{are_operands, binary_value, cast_value, lawful, operated, operator_value, recast_value, unary_value}
+use Rattle.scalar_runs.specs.Run.{Configuration, breach_at}
+use Rattle.scalar_runs.specs.Values.{Values, held_value, is_signed_operand, operand_value, read_as, rvalue_value, word_of_constant}
 use Rattle.scalar_checks.specs.Complete.{HasCheck}
 
 -- the block where a run stands

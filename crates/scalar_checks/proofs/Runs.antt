@@ -1,13 +1,13 @@
 -- Every fault in which a run can end is among the checks of the function.
 use Rattle.std.proofs.Common.{◌≡◌, ℕ, zero, suc, Bool, true, false, cond, List, [], ◌∷◌, subst, sym, ap, ◌∙◌, refl}
 use Rattle.mir_ir.specs.declared.tree.Function.{Function}
-use Rattle.scalar_form.specs.declared.breach.Breach.{Breach}
+use Rattle.scalar_runs.specs.declared.breach.Breach.{Breach}
 use Rattle.scalar_checks.specs.declared.checks.Check.{Check}
-use Rattle.scalar_form.specs.declared.kinds.Choice.{Choice}
+use Rattle.scalar_runs.specs.declared.kinds.Choice.{Choice}
 use Rattle.scalar_checks.specs.Checks.{checks_of}
 use Rattle.scalar_form.specs.Form.{is_scalar}
-use Rattle.scalar_form.specs.Kinds.{is_choice_of}
-use Rattle.scalar_form.specs.Run.{Configuration, Outcome, Running, Ended, Cut, Faulted, Wanting, Lost, Stepped, Goes, Ends, Cuts, Faults, Chooses, Stuck, after, chosen, run, start, step}
+use Rattle.scalar_runs.specs.Kinds.{is_choice_of}
+use Rattle.scalar_runs.specs.Run.{Configuration, Outcome, Running, Ended, Cut, Faulted, Wanting, Lost, Stepped, Goes, Ends, Cuts, Faults, Chooses, Stuck, after, chosen, run, start, step}
 use Rattle.scalar_checks.specs.Complete.{EachFaultIsListed, HasCheck}
 use Rattle.scalar_checks.proofs.Listed.{Listed, step_listed}
 

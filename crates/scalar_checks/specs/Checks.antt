@@ -15,10 +15,10 @@ use Rattle.mir_ir.specs.declared.tree.Terminator.{Terminator}
 use Rattle.mir_ir.specs.declared.tree.Terminator.TheVariants as terminator
 use Rattle.mir_ir.specs.declared.tree.Block.{Block}
 use Rattle.mir_ir.specs.declared.tree.Function.{Function}
-use Rattle.scalar_form.specs.declared.builtins.Builtin.{Builtin}
-use Rattle.scalar_form.specs.declared.builtins.Builtin.TheVariants as builtin
-use Rattle.scalar_form.specs.Builtins.{builtin_of}
-use Rattle.scalar_form.specs.Look.{block_of, blocks_end}
+use Rattle.scalar_runs.specs.declared.builtins.Builtin.{Builtin}
+use Rattle.scalar_runs.specs.declared.builtins.Builtin.TheVariants as builtin
+use Rattle.scalar_runs.specs.Builtins.{builtin_of}
+use Rattle.scalar_runs.specs.Look.{block_of, blocks_end}
 use Rattle.scalar_checks.specs.declared.checks.Check.{Check}
 
 abbrev pub check_at : BlockId → ℕ → CheckClass → List ℕ → Check

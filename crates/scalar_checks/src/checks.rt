@@ -4,7 +4,7 @@ ghost use Rattle.scalar_checks.specs.Complete.{EachFaultIsListed};
 ghost use Rattle.scalar_form.specs.Form.{is_scalar};
 
 use mir_ir::{BinaryOp, Block, Constant, Function, Operand, Rvalue, Statement, Terminator};
-use scalar_form::{Breach, Builtin, block_of, blocks_end, builtin_of};
+use scalar_runs::{Breach, Builtin, block_of, blocks_end, builtin_of};
 use std::alloc::Global;
 use vk_core::{BlockId, CheckClass, Name, NoMemory};
 

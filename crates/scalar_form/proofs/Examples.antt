@@ -22,13 +22,13 @@ use Rattle.mir_ir.specs.declared.tree.Statement.{Statement}
 use Rattle.mir_ir.specs.declared.tree.Statement.TheVariants as statement
 use Rattle.mir_ir.specs.declared.tree.Terminator.{Terminator}
 use Rattle.mir_ir.specs.declared.tree.Terminator.TheVariants as terminator
-use Rattle.scalar_form.specs.declared.breach.Breach.{Breach}
-use Rattle.scalar_form.specs.declared.kinds.Choice.{Choice}
-use Rattle.scalar_form.specs.declared.kinds.ValueKind.{ValueKind}
-use Rattle.scalar_form.specs.declared.kinds.ValueKind.TheVariants as kind
+use Rattle.scalar_runs.specs.declared.breach.Breach.{Breach}
+use Rattle.scalar_runs.specs.declared.kinds.Choice.{Choice}
+use Rattle.scalar_runs.specs.declared.kinds.ValueKind.{ValueKind}
+use Rattle.scalar_runs.specs.declared.kinds.ValueKind.TheVariants as kind
 use Rattle.scalar_form.specs.Form.{is_scalar}
 use Rattle.scalar_form.specs.Size.{first_reached, size_of}
-use Rattle.scalar_form.specs.Run.{Cut, Ended, Faulted, Running, Wanting, run, start, step}
+use Rattle.scalar_runs.specs.Run.{Cut, Ended, Faulted, Running, Wanting, run, start, step}
 
 abbrev local : ℕ → Ty → Local
 local n t = record { id = record { 0 = n }; ty = t }

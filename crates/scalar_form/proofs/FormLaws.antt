@@ -6,10 +6,10 @@ use Rattle.std.proofs.lemmas.Option.{same_Some, none-some}
 use Rattle.mir_ir.specs.declared.tree.Block.{Block}
 use Rattle.mir_ir.specs.declared.tree.Function.{Function}
 use Rattle.scalar_form.specs.Form.{is_scalar, are_locals, are_numbered, returns_unit}
-use Rattle.scalar_form.specs.Look.{block_of, local_kind}
+use Rattle.scalar_runs.specs.Look.{block_of, local_kind}
 use Rattle.scalar_form.specs.Size.{size_of}
 use Rattle.scalar_form.specs.Typing.{are_blocks, are_statements, is_block, is_terminator, is_there}
-use Rattle.scalar_form.proofs.OperandLaws.{and_left, and_right}
+use Rattle.scalar_runs.proofs.OperandLaws.{and_left, and_right}
 
 -- the parts of a function of the form, in order
 pub record Parts (f : Function) : Type 0 where

@@ -4,10 +4,10 @@ use Rattle.std.specs.List.{list_any}
 use Rattle.mir_ir.specs.declared.tree.Local.{Local}
 use Rattle.mir_ir.specs.declared.tree.Block.{Block}
 use Rattle.mir_ir.specs.declared.tree.Function.{Function}
-use Rattle.scalar_form.specs.declared.kinds.ValueKind.{ValueKind}
-use Rattle.scalar_form.specs.declared.kinds.ValueKind.TheVariants as kind
-use Rattle.scalar_form.specs.Kinds.{kind_of}
-use Rattle.scalar_form.specs.Look.{block_of, local_kind}
+use Rattle.scalar_runs.specs.declared.kinds.ValueKind.{ValueKind}
+use Rattle.scalar_runs.specs.declared.kinds.ValueKind.TheVariants as kind
+use Rattle.scalar_runs.specs.Kinds.{kind_of}
+use Rattle.scalar_runs.specs.Look.{block_of, local_kind}
 use Rattle.scalar_form.specs.Size.{size_of}
 use Rattle.scalar_form.specs.Typing.{agree, has_kind, is_there, are_blocks}
 

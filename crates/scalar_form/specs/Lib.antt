@@ -1,10 +1,3 @@
-pub mod Builtins
-pub mod Engine
 pub mod Form
-pub mod Kinds
-pub mod Look
-pub mod Operators
-pub mod Run
 pub mod Size
 pub mod Typing
-pub mod Values

@@ -6,7 +6,7 @@ use Rattle.mir_ir.specs.declared.tree.Terminator.{Terminator}
 use Rattle.mir_ir.specs.declared.tree.Terminator.TheVariants as terminator
 use Rattle.mir_ir.specs.declared.tree.Block.{Block}
 use Rattle.mir_ir.specs.declared.tree.Function.{Function}
-use Rattle.scalar_form.specs.Look.{block_of, blocks_end}
+use Rattle.scalar_runs.specs.Look.{block_of, blocks_end}
 
 abbrev pub marked : List Bool → BlockId → List Bool
 marked marks target = slice_set marks target.0 true

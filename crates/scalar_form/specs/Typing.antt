@@ -23,14 +23,14 @@ use Rattle.mir_ir.specs.declared.tree.Block.{Block}
 use Rattle.mir_ir.specs.declared.tree.Function.{Function}
 use Rattle.mir_ir.specs.Integers.{is_signed}
 use Rattle.mir_ir.specs.declared.types.IntTy.TheVariants as int
-use Rattle.scalar_form.specs.declared.builtins.Builtin.{Builtin}
-use Rattle.scalar_form.specs.declared.builtins.Builtin.TheVariants as builtin
-use Rattle.scalar_form.specs.declared.kinds.ValueKind.{ValueKind}
-use Rattle.scalar_form.specs.declared.kinds.ValueKind.TheVariants as kind
-use Rattle.scalar_form.specs.Builtins.{builtin_of}
-use Rattle.scalar_form.specs.Kinds.{kind_of, is_word, width_of_kind, is_value, is_scalar_value, has_bytes, same_kind, same_int}
-use Rattle.scalar_form.specs.Look.{block_of, local_kind}
-use Rattle.scalar_form.specs.Values.{kind_of_operand}
+use Rattle.scalar_runs.specs.declared.builtins.Builtin.{Builtin}
+use Rattle.scalar_runs.specs.declared.builtins.Builtin.TheVariants as builtin
+use Rattle.scalar_runs.specs.declared.kinds.ValueKind.{ValueKind}
+use Rattle.scalar_runs.specs.declared.kinds.ValueKind.TheVariants as kind
+use Rattle.scalar_runs.specs.Builtins.{builtin_of}
+use Rattle.scalar_runs.specs.Kinds.{kind_of, is_word, width_of_kind, is_value, is_scalar_value, has_bytes, same_kind, same_int}
+use Rattle.scalar_runs.specs.Look.{block_of, local_kind}
+use Rattle.scalar_runs.specs.Values.{kind_of_operand}
 
 -- the place is a local, with no steps
 abbrev pub has_no_steps : List Projection → Bool

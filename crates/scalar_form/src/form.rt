@@ -2,11 +2,10 @@ ghost use Rattle.std.specs.Prelude.{◌≡◌, ◌==◌};
 ghost use Rattle.std.specs.List.{list_any};
 ghost use Rattle.scalar_form.specs.Form.{are_locals, are_numbered, is_scalar, returns_unit};
 
-use crate::kinds::{ValueKind, kind_of};
-use crate::look::{block_of, local_kind};
 use crate::size::is_small;
 use crate::typing::{agree, are_blocks};
 use mir_ir::{Block, Function, Local};
+use scalar_runs::{ValueKind, block_of, kind_of, local_kind};
 use vk_core::{BlockId, LocalId};
 
 fn has_local(locals: &[Local], id: LocalId) -> bool

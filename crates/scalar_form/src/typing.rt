@@ -2,13 +2,13 @@ ghost use Rattle.std.specs.Prelude.{◌≡◌, ◌==◌, Some};
 ghost use Rattle.std.specs.List.{list_any};
 ghost use Rattle.scalar_form.specs.Typing.{agree, are_arms, are_blocks, are_shown, are_statements, binary_kind, bits_kind, cast_kind, has_kind, has_no_steps, integers_kind, is_any_call, is_assert_call, is_assume_call, is_block, is_builtin_call, is_call, is_constant, is_local, is_next, is_panic_call, is_plain, is_statement, is_switch, is_target, is_terminator, is_text, is_truth, neg_kind, not_kind, operand_kind, order_kind, place_kind, recast_kind, rvalue_kind, shift_kind, switch_width};
 
-use crate::builtins::{Builtin, builtin_of};
-use crate::kinds::{ValueKind, is_scalar_value, is_word, kind_of, same_int};
-use crate::look::{block_of, local_kind};
-use crate::values::kind_of_operand;
 use mir_ir::{
     Arm, BinaryOp, Block, CastKind, Constant, Function, IntTy, Operand, PlaceExpr, Rvalue,
     Statement, Terminator,
+};
+use scalar_runs::{
+    Builtin, ValueKind, block_of, builtin_of, is_scalar_value, is_word, kind_of, kind_of_operand,
+    local_kind, same_int,
 };
 use vk_core::BlockId;
 use word_bits::Word;

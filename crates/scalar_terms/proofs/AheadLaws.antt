@@ -15,18 +15,18 @@ use Rattle.mir_ir.specs.declared.tree.Operand.{Operand}
 use Rattle.mir_ir.specs.declared.tree.Statement.{Statement}
 use Rattle.mir_ir.specs.declared.tree.Terminator.{Terminator}
 use Rattle.mir_ir.specs.declared.tree.Terminator.TheVariants as terminator
-use Rattle.scalar_form.specs.declared.builtins.Builtin.{Builtin}
-use Rattle.scalar_form.specs.declared.builtins.Builtin.TheVariants as builtin
-use Rattle.scalar_form.specs.declared.kinds.ValueKind.{ValueKind}
-use Rattle.scalar_form.specs.Builtins.{builtin_of}
+use Rattle.scalar_runs.specs.declared.builtins.Builtin.{Builtin}
+use Rattle.scalar_runs.specs.declared.builtins.Builtin.TheVariants as builtin
+use Rattle.scalar_runs.specs.declared.kinds.ValueKind.{ValueKind}
+use Rattle.scalar_runs.specs.Builtins.{builtin_of}
 use Rattle.scalar_form.specs.Form.{are_locals, are_numbered, is_scalar}
-use Rattle.scalar_form.specs.Kinds.{is_value, is_word, kind_of}
-use Rattle.scalar_form.specs.Look.{block_of, blocks_end, locals_end}
-use Rattle.scalar_form.specs.Run.{Configuration, Stepped, Goes, Ends, Cuts, Faults, Chooses, Stuck, call_step, condition_step, entry_of, is_expected, statement_step, stored, switched, target_of, terminator_step, tested}
+use Rattle.scalar_runs.specs.Kinds.{is_value, is_word, kind_of}
+use Rattle.scalar_runs.specs.Look.{block_of, blocks_end, locals_end}
+use Rattle.scalar_runs.specs.Run.{Configuration, Stepped, Goes, Ends, Cuts, Faults, Chooses, Stuck, call_step, condition_step, entry_of, is_expected, statement_step, stored, switched, target_of, terminator_step, tested}
 use Rattle.scalar_form.specs.Typing.{are_arms, has_kind, is_any_call, is_assert_call, is_assume_call, is_call, is_switch, is_target, is_terminator, is_there, operand_kind, place_kind, switch_width}
-use Rattle.scalar_form.specs.Values.{operand_value}
+use Rattle.scalar_runs.specs.Values.{operand_value}
 use Rattle.scalar_form.proofs.FormLaws.{found_number, parts_of, scalar_block}
-use Rattle.scalar_form.proofs.OperandLaws.{and_left, and_right}
+use Rattle.scalar_runs.proofs.OperandLaws.{and_left, and_right}
 use Rattle.scalar_terms.specs.Places.{Place, Before, Done, Spot, Here, There, Wanting, all_stated, behind_block, chosen_word, entered, finished, passed_at, place, place_of, spot_of, standing}
 use Rattle.scalar_terms.specs.Sweeps.{HaveRoom}
 use Rattle.scalar_terms.proofs.SweepLaws.{place_behind}

@@ -12,15 +12,15 @@ use Rattle.sym_terms.specs.declared.term.TermId.{TermId}
 use Rattle.sym_terms.specs.declared.term.TermOp.TheVariants as op
 use Rattle.sym_terms.specs.Terms.{Fits, IsInserted, IsValue, Keeps, value, width_of}
 use Rattle.sym_terms.proofs.Grown.{Keeps-trans}
-use Rattle.scalar_form.specs.declared.breach.Breach.{Breach}
-use Rattle.scalar_form.specs.declared.kinds.ValueKind.{ValueKind}
-use Rattle.scalar_form.specs.declared.kinds.ValueKind.TheVariants as kind
-use Rattle.scalar_form.specs.Kinds.{is_scalar_value, is_value, is_word, width_of_kind}
-use Rattle.scalar_form.specs.Look.{local_kind}
-use Rattle.scalar_form.specs.Run.{Chooses, stored}
+use Rattle.scalar_runs.specs.declared.breach.Breach.{Breach}
+use Rattle.scalar_runs.specs.declared.kinds.ValueKind.{ValueKind}
+use Rattle.scalar_runs.specs.declared.kinds.ValueKind.TheVariants as kind
+use Rattle.scalar_runs.specs.Kinds.{is_scalar_value, is_value, is_word, width_of_kind}
+use Rattle.scalar_runs.specs.Look.{local_kind}
+use Rattle.scalar_runs.specs.Run.{Chooses, stored}
 use Rattle.scalar_form.specs.Typing.{agree, place_kind}
-use Rattle.scalar_form.specs.Values.{Values}
-use Rattle.scalar_form.proofs.OperandLaws.{both_true, test_of_word}
+use Rattle.scalar_runs.specs.Values.{Values}
+use Rattle.scalar_runs.proofs.OperandLaws.{both_true, test_of_word}
 use Rattle.value_terms.specs.declared.slots.Slot.{Slot}
 use Rattle.value_terms.specs.Made.{IsBit, IsFree, IsInput, IsTest, holds}
 use Rattle.value_terms.specs.Slots.{AreHeld, AreSlots, IsSlot, slot_width}

@@ -12,19 +12,19 @@ use Rattle.mir_ir.specs.declared.tree.Block.{Block}
 use Rattle.mir_ir.specs.declared.tree.Function.{Function}
 use Rattle.mir_ir.specs.declared.tree.Statement.{Statement}
 use Rattle.mir_ir.specs.declared.tree.Statement.TheVariants as statement
-use Rattle.scalar_form.specs.declared.breach.Breach.{Breach}
-use Rattle.scalar_form.specs.declared.kinds.Choice.{Choice}
-use Rattle.scalar_form.specs.declared.kinds.ValueKind.{ValueKind}
-use Rattle.scalar_form.specs.declared.kinds.ValueKind.TheVariants as kind
+use Rattle.scalar_runs.specs.declared.breach.Breach.{Breach}
+use Rattle.scalar_runs.specs.declared.kinds.Choice.{Choice}
+use Rattle.scalar_runs.specs.declared.kinds.ValueKind.{ValueKind}
+use Rattle.scalar_runs.specs.declared.kinds.ValueKind.TheVariants as kind
 use Rattle.scalar_form.specs.Form.{is_scalar}
-use Rattle.scalar_form.specs.Kinds.{is_choice_of, is_scalar_value, is_value, is_word, same_int, same_kind, width_of_kind}
-use Rattle.scalar_form.specs.Look.{block_of}
-use Rattle.scalar_form.specs.Run.{Configuration, Stepped, Goes, Ends, Cuts, Faults, Chooses, Stuck, Outcome, Running, Faulted, Wanting, Lost, after, after_choice, assigned, block_step, breach_at, chosen, run, start, statement_step, step, step_at, terminator_step}
-use Rattle.scalar_form.specs.Run as outcome
+use Rattle.scalar_runs.specs.Kinds.{is_choice_of, is_scalar_value, is_value, is_word, same_int, same_kind, width_of_kind}
+use Rattle.scalar_runs.specs.Look.{block_of}
+use Rattle.scalar_runs.specs.Run.{Configuration, Stepped, Goes, Ends, Cuts, Faults, Chooses, Stuck, Outcome, Running, Faulted, Wanting, Lost, after, after_choice, assigned, block_step, breach_at, chosen, run, start, statement_step, step, step_at, terminator_step}
+use Rattle.scalar_runs.specs.Run as outcome
 use Rattle.scalar_form.specs.Size.{size_of}
-use Rattle.scalar_form.specs.Values.{rvalue_value}
+use Rattle.scalar_runs.specs.Values.{rvalue_value}
 use Rattle.scalar_form.proofs.FormLaws.{found_number, scalar_block}
-use Rattle.scalar_form.proofs.OperandLaws.{and_left, and_right, word_of_test}
+use Rattle.scalar_runs.proofs.OperandLaws.{and_left, and_right, word_of_test}
 use Rattle.scalar_terms.specs.Faults.{FaultsWith, choices_behind, choices_by}
 use Rattle.scalar_terms.specs.Oracle.{On, Stop, EndsWithin, after_told, oracle, told_by}
 use Rattle.scalar_terms.specs.Places.{End, Ended, Cut, Fault, Wanting as Unwanted, Lost as Strayed, chosen_word}

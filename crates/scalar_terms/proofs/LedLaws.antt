@@ -9,9 +9,9 @@ use Rattle.mir_ir.specs.declared.tree.Operand.{Operand}
 use Rattle.sym_terms.specs.declared.term.Term.{Term}
 use Rattle.sym_terms.specs.declared.term.TermId.{TermId}
 use Rattle.sym_terms.specs.Terms.{Keeps}
-use Rattle.scalar_form.specs.declared.breach.Breach.{Breach}
-use Rattle.scalar_form.specs.Run.{Cuts, Faults, Goes, entry_of, is_expected, tested}
-use Rattle.scalar_form.specs.Values.{Values, operand_value}
+use Rattle.scalar_runs.specs.declared.breach.Breach.{Breach}
+use Rattle.scalar_runs.specs.Run.{Cuts, Faults, Goes, entry_of, is_expected, tested}
+use Rattle.scalar_runs.specs.Values.{Values, operand_value}
 use Rattle.scalar_terms.specs.declared.conditions.Condition.{Condition}
 use Rattle.scalar_terms.specs.declared.failures.Failure.{Failure}
 use Rattle.scalar_terms.specs.declared.ways.Split.{Split}

@@ -4,7 +4,7 @@ use Rattle.mir_ir.specs.declared.tree.Function.{Function}
 use Rattle.mir_ir.specs.declared.tree.Statement.{Statement}
 use Rattle.sym_terms.specs.declared.term.Term.{Term}
 use Rattle.scalar_form.specs.Typing.{are_statements, is_statement}
-use Rattle.scalar_form.proofs.OperandLaws.{and_left, and_right}
+use Rattle.scalar_runs.proofs.OperandLaws.{and_left, and_right}
 use Rattle.scalar_terms.specs.declared.failures.Failure.{Failure}
 use Rattle.scalar_terms.specs.declared.ways.Way.{Way}
 use Rattle.scalar_terms.specs.Ends.{AreStated}

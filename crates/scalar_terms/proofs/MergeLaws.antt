@@ -7,8 +7,8 @@ use Rattle.word_bits.specs.declared.word.Word.{Word}
 use Rattle.mir_ir.specs.declared.tree.Function.{Function}
 use Rattle.sym_terms.specs.declared.term.Term.{Term}
 use Rattle.sym_terms.specs.Terms.{Keeps, value, width_of}
-use Rattle.scalar_form.specs.Look.{local_kind}
-use Rattle.scalar_form.specs.Values.{Values}
+use Rattle.scalar_runs.specs.Look.{local_kind}
+use Rattle.scalar_runs.specs.Values.{Values}
 use Rattle.value_terms.specs.declared.slots.Slot.{Slot}
 use Rattle.value_terms.specs.Made.{Grown, IsBit, IsMade, IsTest, holds}
 use Rattle.value_terms.specs.Slots.{AreHeld, AreSlots, IsSlot, SlotIs, slot_width}

@@ -8,16 +8,16 @@ use Rattle.mir_ir.specs.declared.tree.Block.{Block}
 use Rattle.mir_ir.specs.declared.tree.Function.{Function}
 use Rattle.mir_ir.specs.declared.tree.Statement.{Statement}
 use Rattle.mir_ir.specs.declared.tree.Statement.TheVariants as statement
-use Rattle.scalar_form.specs.declared.breach.Breach.{Breach}
-use Rattle.scalar_form.specs.declared.kinds.Choice.{Choice}
-use Rattle.scalar_form.specs.declared.kinds.ValueKind.{ValueKind}
+use Rattle.scalar_runs.specs.declared.breach.Breach.{Breach}
+use Rattle.scalar_runs.specs.declared.kinds.Choice.{Choice}
+use Rattle.scalar_runs.specs.declared.kinds.ValueKind.{ValueKind}
 use Rattle.scalar_form.specs.Form.{is_scalar}
-use Rattle.scalar_form.specs.Kinds.{is_value}
-use Rattle.scalar_form.specs.Look.{block_of, blocks_end}
-use Rattle.scalar_form.specs.Run.{Configuration, Stepped, Goes, Ends, Cuts, Faults, Chooses, Stuck, Faulted, Running, after, assigned, block_step, breach_at, chosen, run, start, statement_step, step, step_at, terminator_step}
-use Rattle.scalar_form.specs.Run as outcome
+use Rattle.scalar_runs.specs.Kinds.{is_value}
+use Rattle.scalar_runs.specs.Look.{block_of, blocks_end}
+use Rattle.scalar_runs.specs.Run.{Configuration, Stepped, Goes, Ends, Cuts, Faults, Chooses, Stuck, Faulted, Running, after, assigned, block_step, breach_at, chosen, run, start, statement_step, step, step_at, terminator_step}
+use Rattle.scalar_runs.specs.Run as outcome
 use Rattle.scalar_form.specs.Size.{size_of}
-use Rattle.scalar_form.specs.Values.{rvalue_value}
+use Rattle.scalar_runs.specs.Values.{rvalue_value}
 use Rattle.scalar_form.proofs.FormLaws.{parts_of}
 use Rattle.scalar_terms.specs.declared.replays.FaultRun.{FaultRun}
 use Rattle.scalar_terms.specs.Faults.{FaultsWith}

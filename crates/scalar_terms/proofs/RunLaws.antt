@@ -14,15 +14,15 @@ use Rattle.mir_ir.specs.declared.tree.Statement.{Statement}
 use Rattle.mir_ir.specs.declared.tree.Statement.TheVariants as statement
 use Rattle.mir_ir.specs.declared.tree.Terminator.{Terminator}
 use Rattle.mir_ir.specs.declared.tree.Terminator.TheVariants as terminator
-use Rattle.scalar_form.specs.declared.builtins.Builtin.{Builtin}
-use Rattle.scalar_form.specs.declared.builtins.Builtin.TheVariants as builtin
-use Rattle.scalar_form.specs.Builtins.{builtin_of}
-use Rattle.scalar_form.specs.declared.kinds.ValueKind.{ValueKind}
-use Rattle.scalar_form.specs.Kinds.{is_value}
-use Rattle.scalar_form.specs.Look.{block_of}
-use Rattle.scalar_form.specs.Run.{Configuration, Stepped, Goes, Ends, Cuts, Faults, Chooses, Stuck, assigned, block_step, breach_at, call_step, chosen, condition_step, entry_of, is_expected, start, statement_step, step, step_at, stored, switched, terminator_step, tested}
+use Rattle.scalar_runs.specs.declared.builtins.Builtin.{Builtin}
+use Rattle.scalar_runs.specs.declared.builtins.Builtin.TheVariants as builtin
+use Rattle.scalar_runs.specs.Builtins.{builtin_of}
+use Rattle.scalar_runs.specs.declared.kinds.ValueKind.{ValueKind}
+use Rattle.scalar_runs.specs.Kinds.{is_value}
+use Rattle.scalar_runs.specs.Look.{block_of}
+use Rattle.scalar_runs.specs.Run.{Configuration, Stepped, Goes, Ends, Cuts, Faults, Chooses, Stuck, assigned, block_step, breach_at, call_step, chosen, condition_step, entry_of, is_expected, start, statement_step, step, step_at, stored, switched, terminator_step, tested}
 use Rattle.scalar_form.specs.Size.{reached_before, size_below, size_of_block}
-use Rattle.scalar_form.specs.Values.{Values, operand_value, rvalue_value}
+use Rattle.scalar_runs.specs.Values.{Values, operand_value, rvalue_value}
 use Rattle.scalar_form.proofs.FormLaws.{found_number}
 use Rattle.scalar_terms.specs.Oracle.{Advance, On, Stop, EndsWithin, PlaceEnds, after_told, oracle, told_by}
 use Rattle.scalar_terms.specs.Places.{End, Ended, Cut, Fault, Wanting, Lost, Place, Before, Done, Spot, Here, There, all_stated, chosen_word, finished, passed_at, place, place_of, spot_of, standing}

@@ -9,11 +9,11 @@ use Rattle.mir_ir.specs.declared.tree.Function.{Function}
 use Rattle.sym_terms.specs.declared.term.Term.{Term}
 use Rattle.sym_terms.specs.declared.term.Term.TheVariants.{Constant}
 use Rattle.sym_terms.specs.Terms.{IsInserted}
-use Rattle.scalar_form.specs.declared.breach.Breach.{Breach}
-use Rattle.scalar_form.specs.declared.kinds.Choice.{Choice}
+use Rattle.scalar_runs.specs.declared.breach.Breach.{Breach}
+use Rattle.scalar_runs.specs.declared.kinds.Choice.{Choice}
 use Rattle.scalar_form.specs.Form.{is_scalar}
-use Rattle.scalar_form.specs.Look.{blocks_end, local_kind, locals_end}
-use Rattle.scalar_form.specs.Run.{Faulted, run, start}
+use Rattle.scalar_runs.specs.Look.{blocks_end, local_kind, locals_end}
+use Rattle.scalar_runs.specs.Run.{Faulted, run, start}
 use Rattle.scalar_form.specs.Size.{size_below, size_of}
 use Rattle.value_terms.specs.declared.slots.Slot.{Slot}
 use Rattle.value_terms.specs.Made.{IsFree, IsTest, holds}

@@ -14,14 +14,14 @@ use Rattle.mir_ir.specs.declared.tree.Statement.TheVariants as statement
 use Rattle.sym_terms.specs.declared.term.Term.{Term}
 use Rattle.sym_terms.specs.declared.term.TermId.{TermId}
 use Rattle.sym_terms.specs.Terms.{Keeps, value, width_of}
-use Rattle.scalar_form.specs.declared.breach.Breach.{Breach}
-use Rattle.scalar_form.specs.declared.kinds.ValueKind.{ValueKind}
-use Rattle.scalar_form.specs.declared.kinds.ValueKind.TheVariants as kind
-use Rattle.scalar_form.specs.Kinds.{same_kind, width_of_kind}
-use Rattle.scalar_form.specs.Look.{local_kind}
-use Rattle.scalar_form.specs.Run.{assigned, stored}
+use Rattle.scalar_runs.specs.declared.breach.Breach.{Breach}
+use Rattle.scalar_runs.specs.declared.kinds.ValueKind.{ValueKind}
+use Rattle.scalar_runs.specs.declared.kinds.ValueKind.TheVariants as kind
+use Rattle.scalar_runs.specs.Kinds.{same_kind, width_of_kind}
+use Rattle.scalar_runs.specs.Look.{local_kind}
+use Rattle.scalar_runs.specs.Run.{assigned, stored}
 use Rattle.scalar_form.specs.Typing.{agree, has_kind, is_local, place_kind, rvalue_kind}
-use Rattle.scalar_form.specs.Values.{Values, rvalue_value}
+use Rattle.scalar_runs.specs.Values.{Values, rvalue_value}
 use Rattle.scalar_terms.specs.declared.failures.Failure.{Failure}
 use Rattle.scalar_terms.specs.declared.ways.Split.{Split}
 use Rattle.scalar_terms.specs.declared.ways.Way.{Way}

@@ -10,8 +10,8 @@ use Rattle.mir_ir.specs.declared.tree.Statement.{Statement}
 use Rattle.sym_terms.specs.declared.term.Term.{Term}
 use Rattle.sym_terms.specs.Terms.{Keeps}
 use Rattle.sym_terms.proofs.Grown.{Keeps-trans}
-use Rattle.scalar_form.specs.Look.{block_of}
-use Rattle.scalar_form.specs.Run.{Configuration, Stepped, Goes, Ends, Cuts, Faults, Chooses, Stuck, statement_step, terminator_step}
+use Rattle.scalar_runs.specs.Look.{block_of}
+use Rattle.scalar_runs.specs.Run.{Configuration, Stepped, Goes, Ends, Cuts, Faults, Chooses, Stuck, statement_step, terminator_step}
 use Rattle.scalar_form.proofs.FormLaws.{found_number}
 use Rattle.value_terms.specs.Made.{holds}
 use Rattle.value_terms.specs.Slots.{AreHeld}

@@ -8,11 +8,11 @@ use Rattle.mir_ir.specs.declared.tree.Function.{Function}
 use Rattle.sym_terms.specs.declared.term.Term.{Term}
 use Rattle.mir_ir.specs.declared.tree.Operand.{Operand}
 use Rattle.sym_terms.specs.Terms.{IsValue, Keeps, value}
-use Rattle.scalar_form.specs.declared.breach.Breach.{Breach}
-use Rattle.scalar_form.specs.Run.{Goes, Faults, entry_of, is_expected, tested}
-use Rattle.scalar_form.specs.declared.kinds.ValueKind.TheVariants as kind
+use Rattle.scalar_runs.specs.declared.breach.Breach.{Breach}
+use Rattle.scalar_runs.specs.Run.{Goes, Faults, entry_of, is_expected, tested}
+use Rattle.scalar_runs.specs.declared.kinds.ValueKind.TheVariants as kind
 use Rattle.scalar_form.specs.Typing.{is_truth, operand_kind}
-use Rattle.scalar_form.specs.Values.{Values, kind_of_operand, operand_value}
+use Rattle.scalar_runs.specs.Values.{Values, kind_of_operand, operand_value}
 use Rattle.scalar_terms.specs.declared.conditions.Condition.{Condition}
 use Rattle.scalar_terms.specs.declared.failures.Failure.{Failure}
 use Rattle.scalar_terms.specs.declared.ways.Split.{Split}

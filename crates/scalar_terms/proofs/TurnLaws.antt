@@ -15,17 +15,17 @@ use Rattle.mir_ir.specs.declared.tree.Terminator.TheVariants as terminator
 use Rattle.sym_terms.specs.declared.term.Term.{Term}
 use Rattle.sym_terms.specs.declared.term.TermId.{TermId}
 use Rattle.sym_terms.specs.Terms.{Keeps}
-use Rattle.scalar_form.specs.declared.breach.Breach.{Breach}
-use Rattle.scalar_form.specs.declared.builtins.Builtin.{Builtin}
-use Rattle.scalar_form.specs.declared.builtins.Builtin.TheVariants as builtin
-use Rattle.scalar_form.specs.declared.kinds.ValueKind.{ValueKind}
-use Rattle.scalar_form.specs.declared.kinds.ValueKind.TheVariants as kind
-use Rattle.scalar_form.specs.Kinds.{has_bytes, is_word, width_of_kind}
-use Rattle.scalar_form.specs.Look.{block_of}
-use Rattle.scalar_form.specs.Run.{Configuration, Stepped, Ends, builtin_step, call_step, condition_step, switched, target_of, terminator_step, tested}
+use Rattle.scalar_runs.specs.declared.breach.Breach.{Breach}
+use Rattle.scalar_runs.specs.declared.builtins.Builtin.{Builtin}
+use Rattle.scalar_runs.specs.declared.builtins.Builtin.TheVariants as builtin
+use Rattle.scalar_runs.specs.declared.kinds.ValueKind.{ValueKind}
+use Rattle.scalar_runs.specs.declared.kinds.ValueKind.TheVariants as kind
+use Rattle.scalar_runs.specs.Kinds.{has_bytes, is_word, width_of_kind}
+use Rattle.scalar_runs.specs.Look.{block_of}
+use Rattle.scalar_runs.specs.Run.{Configuration, Stepped, Ends, builtin_step, call_step, condition_step, switched, target_of, terminator_step, tested}
 use Rattle.scalar_form.specs.Typing.{agree, are_arms, are_shown, has_kind, is_any_call, is_assert_call, is_assume_call, is_builtin_call, is_call, is_switch, is_target, is_terminator, is_text, is_there, is_truth, switch_width}
-use Rattle.scalar_form.specs.Values.{Values, kind_of_operand, operand_value}
-use Rattle.scalar_form.proofs.OperandLaws.{and_left, and_right, word_of_test}
+use Rattle.scalar_runs.specs.Values.{Values, kind_of_operand, operand_value}
+use Rattle.scalar_runs.proofs.OperandLaws.{and_left, and_right, word_of_test}
 use Rattle.value_terms.specs.declared.slots.Slot.{Slot}
 use Rattle.value_terms.specs.Made.{Grown, IsTest, holds}
 use Rattle.value_terms.specs.Slots.{AreHeld, AreSlots, IsRead, ReadIs, slot_width}

@@ -8,7 +8,7 @@ use Rattle.sym_terms.specs.declared.term.Term.TheVariants.{Constant}
 use Rattle.sym_terms.specs.declared.term.TermId.{TermId}
 use Rattle.sym_terms.specs.Terms.{AreFitting, Keeps}
 use Rattle.sym_terms.proofs.Grown.{value_at}
-use Rattle.scalar_form.specs.declared.breach.Breach.{Breach}
+use Rattle.scalar_runs.specs.declared.breach.Breach.{Breach}
 use Rattle.scalar_terms.specs.declared.failures.Failure.{Failure}
 use Rattle.scalar_terms.specs.declared.ways.Split.{Split}
 use Rattle.value_terms.specs.Made.{Grown, IsBit, IsTest, holds}

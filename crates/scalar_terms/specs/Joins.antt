@@ -2,7 +2,7 @@
 use Rattle.std.specs.Prelude.{◌≡◌, ◌≢◌, ℕ, true, false, List, Option, Some, None, length, slice_index_or}
 use Rattle.mir_ir.specs.declared.tree.Function.{Function}
 use Rattle.sym_terms.specs.declared.term.Term.{Term}
-use Rattle.scalar_form.specs.Values.{Values}
+use Rattle.scalar_runs.specs.Values.{Values}
 use Rattle.value_terms.specs.declared.slots.Slot.{Slot}
 use Rattle.value_terms.specs.Made.{Grown, holds}
 use Rattle.value_terms.specs.Slots.{AreHeld}

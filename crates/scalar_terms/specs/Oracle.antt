@@ -1,9 +1,9 @@
 -- The runs whose choices are these inputs, step by step.
 use Rattle.std.specs.Prelude.{◌≡◌, ◌≤◌, ℕ, zero, suc, if◌then◌else◌, Option, Some, None}
 use Rattle.mir_ir.specs.declared.tree.Function.{Function}
-use Rattle.scalar_form.specs.declared.kinds.ValueKind.{ValueKind}
-use Rattle.scalar_form.specs.Kinds.{is_value}
-use Rattle.scalar_form.specs.Run.{Configuration, Stepped, Goes, Ends, Cuts, Faults, Chooses, Stuck, breach_at, chosen, entry_of, step}
+use Rattle.scalar_runs.specs.declared.kinds.ValueKind.{ValueKind}
+use Rattle.scalar_runs.specs.Kinds.{is_value}
+use Rattle.scalar_runs.specs.Run.{Configuration, Stepped, Goes, Ends, Cuts, Faults, Chooses, Stuck, breach_at, chosen, entry_of, step}
 use Rattle.scalar_terms.specs.Places.{End, Ended, Cut, Fault, Wanting, Lost, Place, Before, Done, chosen_word}
 
 -- where a step leads: to a configuration, or to the end

@@ -3,7 +3,7 @@ use Rattle.std.specs.Prelude.{◌≡◌, ◌<◌, ℕ, true, false, List, [], �
 use Rattle.mir_ir.specs.declared.tree.Function.{Function}
 use Rattle.sym_terms.specs.declared.term.Term.{Term}
 use Rattle.sym_terms.specs.Terms.{value, width_of}
-use Rattle.scalar_form.specs.Values.{Values}
+use Rattle.scalar_runs.specs.Values.{Values}
 use Rattle.value_terms.specs.declared.slots.Slot.{Slot}
 use Rattle.value_terms.specs.Made.{Grown, IsBit, holds}
 use Rattle.value_terms.specs.Slots.{AreHeld}

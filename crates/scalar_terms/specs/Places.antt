@@ -8,12 +8,12 @@ use Rattle.mir_ir.specs.declared.tree.Block.{Block}
 use Rattle.mir_ir.specs.declared.tree.Function.{Function}
 use Rattle.mir_ir.specs.declared.tree.Statement.{Statement}
 use Rattle.mir_ir.specs.declared.tree.Terminator.{Terminator}
-use Rattle.scalar_form.specs.declared.breach.Breach.{Breach}
-use Rattle.scalar_form.specs.declared.kinds.ValueKind.{ValueKind}
-use Rattle.scalar_form.specs.Kinds.{is_value, width_of_kind}
-use Rattle.scalar_form.specs.Look.{block_of, locals_end}
-use Rattle.scalar_form.specs.Run.{Configuration, Stepped, Goes, Ends, Cuts, Faults, Chooses, Stuck, breach_at, statement_step, stored, terminator_step}
-use Rattle.scalar_form.specs.Values.{Values}
+use Rattle.scalar_runs.specs.declared.breach.Breach.{Breach}
+use Rattle.scalar_runs.specs.declared.kinds.ValueKind.{ValueKind}
+use Rattle.scalar_runs.specs.Kinds.{is_value, width_of_kind}
+use Rattle.scalar_runs.specs.Look.{block_of, locals_end}
+use Rattle.scalar_runs.specs.Run.{Configuration, Stepped, Goes, Ends, Cuts, Faults, Chooses, Stuck, breach_at, statement_step, stored, terminator_step}
+use Rattle.scalar_runs.specs.Values.{Values}
 
 -- how a run ends
 pub data End : Type 0 where

@@ -1,11 +1,11 @@
 -- The run that takes its choices from inputs, up to a fault.
 use Rattle.std.specs.Prelude.{◌≡◌, ◌-◌, ◌+◌, ◌<◌, ◌≤◌, ℕ, Bool, true, false, List, [], ◌∷◌, ◌++◌, Option, Some, None}
 use Rattle.mir_ir.specs.declared.tree.Function.{Function}
-use Rattle.scalar_form.specs.declared.breach.Breach.{Breach}
-use Rattle.scalar_form.specs.declared.kinds.Choice.{Choice}
-use Rattle.scalar_form.specs.declared.kinds.ValueKind.{ValueKind}
-use Rattle.scalar_form.specs.Kinds.{is_value}
-use Rattle.scalar_form.specs.Run.{Configuration, Faulted, Running, chosen, run, start}
+use Rattle.scalar_runs.specs.declared.breach.Breach.{Breach}
+use Rattle.scalar_runs.specs.declared.kinds.Choice.{Choice}
+use Rattle.scalar_runs.specs.declared.kinds.ValueKind.{ValueKind}
+use Rattle.scalar_runs.specs.Kinds.{is_value}
+use Rattle.scalar_runs.specs.Run.{Configuration, Faulted, Running, chosen, run, start}
 use Rattle.scalar_form.specs.Size.{size_of}
 use Rattle.scalar_terms.specs.declared.replays.FaultRun.{FaultRun}
 use Rattle.scalar_terms.specs.Faults.{FaultsWith}

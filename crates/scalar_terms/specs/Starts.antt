@@ -2,7 +2,7 @@
 use Rattle.std.specs.Prelude.{◌≡◌, ℕ, true, false, List, Some, length, slice_get}
 use Rattle.mir_ir.specs.declared.tree.Function.{Function}
 use Rattle.sym_terms.specs.declared.term.Term.{Term}
-use Rattle.scalar_form.specs.Look.{local_kind}
+use Rattle.scalar_runs.specs.Look.{local_kind}
 use Rattle.value_terms.specs.declared.slots.Slot.{Slot}
 use Rattle.value_terms.specs.Made.{Grown, holds}
 use Rattle.value_terms.specs.Slots.{IsSlot, slot_width}

@@ -3,7 +3,7 @@ use Rattle.std.specs.Prelude.{◌≡◌, ◌≤◌, ◌<◌, ℕ, Bool, true, fa
 use Rattle.mir_ir.specs.declared.tree.Function.{Function}
 use Rattle.mir_ir.specs.declared.tree.Operand.{Operand}
 use Rattle.sym_terms.specs.declared.term.Term.{Term}
-use Rattle.scalar_form.specs.Look.{block_of}
+use Rattle.scalar_runs.specs.Look.{block_of}
 use Rattle.scalar_form.specs.Typing.{is_there, is_truth}
 use Rattle.value_terms.specs.Made.{IsFree}
 use Rattle.scalar_terms.specs.declared.failures.Failure.{Failure}

@@ -6,8 +6,8 @@ use Rattle.mir_ir.specs.declared.tree.Arm.{Arm}
 use Rattle.mir_ir.specs.declared.tree.Function.{Function}
 use Rattle.sym_terms.specs.declared.term.Term.{Term}
 use Rattle.sym_terms.specs.Terms.{value}
-use Rattle.scalar_form.specs.Run.{target_of}
-use Rattle.scalar_form.specs.Values.{Values}
+use Rattle.scalar_runs.specs.Run.{target_of}
+use Rattle.scalar_runs.specs.Values.{Values}
 use Rattle.value_terms.specs.declared.slots.Slot.{Slot}
 use Rattle.value_terms.specs.Made.{Grown, holds}
 use Rattle.value_terms.specs.Slots.{AreHeld}

@@ -7,8 +7,8 @@ use Rattle.mir_ir.specs.declared.tree.Function.{Function}
 use Rattle.mir_ir.specs.declared.tree.Operand.{Operand}
 use Rattle.sym_terms.specs.declared.term.Term.{Term}
 use Rattle.sym_terms.specs.Terms.{Keeps}
-use Rattle.scalar_form.specs.Run.{Configuration, Stepped, is_expected}
-use Rattle.scalar_form.specs.Values.{Values, operand_value}
+use Rattle.scalar_runs.specs.Run.{Configuration, Stepped, is_expected}
+use Rattle.scalar_runs.specs.Values.{Values, operand_value}
 use Rattle.value_terms.specs.declared.slots.Slot.{Slot}
 use Rattle.value_terms.specs.Made.{Grown, IsBit, IsFree, holds}
 use Rattle.value_terms.specs.Slots.{AreHeld}

@@ -2,8 +2,8 @@ ghost use Rattle.std.specs.Prelude.{◌≡◌, ◌<◌, IfOk, OnOk, length, true
 ghost use Rattle.scalar_form.specs.Typing.{is_truth};
 ghost use Rattle.value_terms.specs.Slots.{AreSlots};
 ghost use Rattle.scalar_terms.specs.Joins.{AreWays};
-ghost use Rattle.scalar_form.specs.Run.{Cuts, Faults, Goes, entry_of, tested};
-ghost use Rattle.scalar_form.specs.Values.{operand_value};
+ghost use Rattle.scalar_runs.specs.Run.{Cuts, Faults, Goes, entry_of, tested};
+ghost use Rattle.scalar_runs.specs.Values.{operand_value};
 ghost use Rattle.scalar_terms.specs.Tests.{IsCondition, IsLed};
 ghost use Rattle.scalar_terms.specs.Ways.{AreFailures, IsWay};
 
@@ -12,7 +12,7 @@ use crate::join::join;
 use crate::steps::{note_both, note_unset};
 use crate::ways::{Way, split_guard};
 use mir_ir::{Function, Operand};
-use scalar_form::Breach;
+use scalar_runs::Breach;
 use std::alloc::Global;
 use sym_terms::{TermId, Terms};
 use value_terms::{Slot, inverse, read};

@@ -2,7 +2,7 @@ ghost use Rattle.value_terms.specs.Made.{IsBit, holds};
 ghost use Rattle.scalar_terms.specs.Ways.{IsNoted};
 ghost use Rattle.std.specs.Prelude.{◌≡◌, ℕ, OnOk, false, true};
 
-use scalar_form::Breach;
+use scalar_runs::Breach;
 use sym_terms::{Term, TermId, Terms};
 use vk_core::NoMemory;
 

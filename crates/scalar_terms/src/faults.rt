@@ -1,6 +1,6 @@
 ghost use Rattle.std.specs.Prelude.{◌≡◌, [], IfOk, None, OnOk, replicate, true};
 ghost use Rattle.scalar_form.specs.Form.{is_scalar};
-ghost use Rattle.scalar_form.specs.Look.{blocks_end};
+ghost use Rattle.scalar_runs.specs.Look.{blocks_end};
 ghost use Rattle.scalar_terms.specs.Faults.{AreFaults};
 ghost use Rattle.scalar_terms.specs.Starts.{IsStart};
 
@@ -10,7 +10,7 @@ use crate::starts::{no_ways, start_way};
 use crate::sweep::pass_all;
 use crate::ways::Way;
 use mir_ir::Function;
-use scalar_form::blocks_end;
+use scalar_runs::blocks_end;
 use std::alloc::Global;
 use sym_terms::Terms;
 use vk_core::NoMemory;

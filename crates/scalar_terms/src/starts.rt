@@ -1,12 +1,12 @@
 ghost use Rattle.std.specs.Prelude.{◌≡◌, ◌≤◌, ◌<◌, ◌^◌, IfOk, None, OnOk, Some, length, replicate, slice_set};
 ghost use Rattle.word_bits.specs.Words.{IsWidth};
-ghost use Rattle.scalar_form.specs.Look.{blocks_end, local_kind, locals_end};
+ghost use Rattle.scalar_runs.specs.Look.{blocks_end, local_kind, locals_end};
 ghost use Rattle.value_terms.specs.Slots.{slot_width};
 ghost use Rattle.scalar_terms.specs.Starts.{AreUnset, IsStart, IsUnset};
 
 use crate::ways::Way;
 use mir_ir::Function;
-use scalar_form::{local_kind, locals_end};
+use scalar_runs::{local_kind, locals_end};
 use std::alloc::Global;
 use sym_terms::{Term, Terms};
 use value_terms::{Slot, bit};

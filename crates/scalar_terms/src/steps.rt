@@ -8,7 +8,7 @@ ghost use Rattle.scalar_terms.specs.Ways.{AreFailures, IsNoted, IsWay};
 use crate::failures::{Failure, note};
 use crate::ways::{Split, Way, split_guard};
 use mir_ir::{Function, PlaceExpr, Rvalue, Statement};
-use scalar_form::Breach;
+use scalar_runs::Breach;
 use sym_terms::{TermId, Terms};
 use value_terms::{Slot, rvalue_terms};
 use vk_core::{BlockId, CheckClass, LocalId, NoMemory};

@@ -13,7 +13,7 @@ use crate::steps::run_statements;
 use crate::terminators::finish;
 use crate::ways::Way;
 use mir_ir::{Block, Function};
-use scalar_form::{block_of, blocks_end};
+use scalar_runs::{block_of, blocks_end};
 use std::alloc::Global;
 use sym_terms::Terms;
 use vk_core::{BlockId, NoMemory};

@@ -5,7 +5,7 @@ use Rattle.sym_terms.specs.declared.term.Term.{Term}
 use Rattle.sym_terms.specs.Terms.{Keeps}
 use Rattle.value_terms.specs.Made.{IsBit, IsTest, holds}
 use Rattle.value_terms.proofs.MadeLaws.{bit_kept, grown_trans, holds_kept}
-use Rattle.scalar_form.specs.declared.breach.Breach.{Breach}
+use Rattle.scalar_runs.specs.declared.breach.Breach.{Breach}
 use Rattle.scalar_terms.specs.declared.failures.Failure.{Failure}
 use Rattle.scalar_terms.specs.Ways.{AreFailures, Tells}
 use Rattle.scalar_verdicts.specs.Failures.{AreOthers, AreOwn, IsOtherPut, IsOwnPut, IsPicked, IsSifted, IsSum, any_holds}

@@ -5,8 +5,8 @@ use Rattle.std.proofs.lemmas.Bool.{eqb-true, leb-true, leb-false}
 use Rattle.mir_ir.specs.declared.tree.Function.{Function}
 use Rattle.sym_terms.specs.declared.term.Term.{Term}
 use Rattle.value_terms.specs.Made.{Grown, IsTest, holds}
-use Rattle.scalar_form.specs.declared.breach.Breach.{Breach}
-use Rattle.scalar_form.specs.Run.{start}
+use Rattle.scalar_runs.specs.declared.breach.Breach.{Breach}
+use Rattle.scalar_runs.specs.Run.{start}
 use Rattle.scalar_terms.specs.declared.failures.Failure.{Failure}
 use Rattle.scalar_terms.specs.declared.replays.FaultRun.{FaultRun}
 use Rattle.scalar_terms.specs.Faults.{AreFaults, FaultsWith}

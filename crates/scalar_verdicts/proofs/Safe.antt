@@ -2,11 +2,11 @@
 use Rattle.std.proofs.Common.{◌≡◌, ◌⊎◌, inl, inr, ℕ, Bool, true, false, ◌||◌, cond, List, [], ◌∷◌, map, subst, sym, refl}
 use Rattle.std.specs.List.{list_any}
 use Rattle.mir_ir.specs.declared.tree.Function.{Function}
-use Rattle.scalar_form.specs.declared.breach.Breach.{Breach}
+use Rattle.scalar_runs.specs.declared.breach.Breach.{Breach}
 use Rattle.scalar_checks.specs.declared.checks.Check.{Check}
 use Rattle.scalar_checks.specs.Checks.{checks_of}
 use Rattle.scalar_form.specs.Form.{is_scalar}
-use Rattle.scalar_form.specs.Run.{start}
+use Rattle.scalar_runs.specs.Run.{start}
 use Rattle.scalar_checks.specs.Complete.{HasCheck}
 use Rattle.scalar_checks.proofs.Runs.{run_listed}
 use Rattle.unit_reports.specs.declared.status.CheckStatus.{CheckStatus}

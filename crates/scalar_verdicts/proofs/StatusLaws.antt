@@ -4,10 +4,10 @@ use Rattle.std.specs.Prelude.{leb}
 use Rattle.std.proofs.lemmas.Bool.{leb-true, leb-false}
 use Rattle.std.proofs.Math.Nat.{min-eq_left, min-eq_right, min-le_left, min-le_right}
 use Rattle.mir_ir.specs.declared.tree.Function.{Function}
-use Rattle.scalar_form.specs.declared.breach.Breach.{Breach}
+use Rattle.scalar_runs.specs.declared.breach.Breach.{Breach}
 use Rattle.scalar_checks.specs.declared.checks.Check.{Check}
 use Rattle.scalar_checks.specs.Checks.{checks_of}
-use Rattle.scalar_form.specs.Run.{start}
+use Rattle.scalar_runs.specs.Run.{start}
 use Rattle.scalar_terms.specs.declared.replays.FaultRun.{FaultRun}
 use Rattle.scalar_terms.specs.Replays.{Reaches}
 use Rattle.unit_reports.specs.declared.status.Outcome.{Outcome}

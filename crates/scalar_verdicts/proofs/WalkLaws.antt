@@ -7,19 +7,19 @@ use Rattle.vk_core.specs.declared.ids.BlockId.{BlockId}
 use Rattle.word_bits.specs.declared.word.Word.{Word}
 use Rattle.word_bits.specs.Words.{word}
 use Rattle.mir_ir.specs.declared.tree.Function.{Function}
-use Rattle.scalar_form.specs.declared.breach.Breach.{Breach}
-use Rattle.scalar_form.specs.declared.kinds.Choice.{Choice}
-use Rattle.scalar_form.specs.declared.kinds.ValueKind.{ValueKind}
-use Rattle.scalar_form.specs.declared.step.State.{State}
-use Rattle.scalar_form.specs.declared.step.Step.{Step}
-use Rattle.scalar_form.specs.declared.step.Step.TheVariants as made
-use Rattle.scalar_form.specs.Engine.{Does, configuration}
+use Rattle.scalar_runs.specs.declared.breach.Breach.{Breach}
+use Rattle.scalar_runs.specs.declared.kinds.Choice.{Choice}
+use Rattle.scalar_runs.specs.declared.kinds.ValueKind.{ValueKind}
+use Rattle.scalar_runs.specs.declared.step.State.{State}
+use Rattle.scalar_runs.specs.declared.step.Step.{Step}
+use Rattle.scalar_runs.specs.declared.step.Step.TheVariants as made
+use Rattle.scalar_runs.specs.Engine.{Does, configuration}
 use Rattle.scalar_form.specs.Form.{is_scalar}
-use Rattle.scalar_form.specs.Kinds.{is_choice_of, is_value, same_kind, width_of_kind}
-use Rattle.scalar_form.specs.Run.{Configuration, Stepped, Goes, Ends, Cuts, Faults, Chooses, Stuck, Outcome, Running, Ended, Cut, Faulted, Wanting, Lost, after, breach_at, chosen, entry_of, run, start, step, stored}
+use Rattle.scalar_runs.specs.Kinds.{is_choice_of, is_value, same_kind, width_of_kind}
+use Rattle.scalar_runs.specs.Run.{Configuration, Stepped, Goes, Ends, Cuts, Faults, Chooses, Stuck, Outcome, Running, Ended, Cut, Faulted, Wanting, Lost, after, breach_at, chosen, entry_of, run, start, step, stored}
 use Rattle.scalar_form.specs.Size.{size_of}
 use Rattle.scalar_form.proofs.FormLaws.{parts_of}
-use Rattle.scalar_form.proofs.OperandLaws.{and_right}
+use Rattle.scalar_runs.proofs.OperandLaws.{and_right}
 use Rattle.scalar_terms.specs.declared.replays.FaultRun.{FaultRun}
 use Rattle.scalar_terms.specs.Faults.{FaultsWith}
 use Rattle.scalar_terms.specs.Oracle.{On, Stop, EndsWithin, after_told, oracle, told_by}

@@ -4,13 +4,13 @@ use Rattle.mir_ir.specs.declared.tree.Block.{Block}
 use Rattle.mir_ir.specs.declared.tree.Function.{Function}
 use Rattle.mir_ir.specs.declared.tree.Terminator.{Terminator}
 use Rattle.mir_ir.specs.declared.tree.Terminator.TheVariants as terminator
-use Rattle.scalar_form.specs.declared.builtins.Builtin.{Builtin}
-use Rattle.scalar_form.specs.declared.builtins.Builtin.TheVariants as builtin
-use Rattle.scalar_form.specs.declared.kinds.ValueKind.{ValueKind}
-use Rattle.scalar_form.specs.declared.kinds.ValueKind.TheVariants as kind
-use Rattle.scalar_form.specs.Builtins.{builtin_of}
-use Rattle.scalar_form.specs.Kinds.{width_of_kind}
-use Rattle.scalar_form.specs.Look.{block_of, blocks_end}
+use Rattle.scalar_runs.specs.declared.builtins.Builtin.{Builtin}
+use Rattle.scalar_runs.specs.declared.builtins.Builtin.TheVariants as builtin
+use Rattle.scalar_runs.specs.declared.kinds.ValueKind.{ValueKind}
+use Rattle.scalar_runs.specs.declared.kinds.ValueKind.TheVariants as kind
+use Rattle.scalar_runs.specs.Builtins.{builtin_of}
+use Rattle.scalar_runs.specs.Kinds.{width_of_kind}
+use Rattle.scalar_runs.specs.Look.{block_of, blocks_end}
 use Rattle.scalar_form.specs.Size.{reached_before}
 
 -- the values of a kind: 1,114,112 numbers below the end of the characters, but for 2,048 surrogates

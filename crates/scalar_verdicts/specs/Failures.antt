@@ -2,7 +2,7 @@
 use Rattle.std.specs.Prelude.{◌≡◌, ◌⊎◌, ◌||◌, ℕ, Bool, false, List, [], ◌∷◌, ◌++◌}
 use Rattle.sym_terms.specs.declared.term.Term.{Term}
 use Rattle.value_terms.specs.Made.{Grown, IsBit, holds}
-use Rattle.scalar_form.specs.declared.breach.Breach.{Breach}
+use Rattle.scalar_runs.specs.declared.breach.Breach.{Breach}
 use Rattle.scalar_terms.specs.declared.failures.Failure.{Failure}
 use Rattle.scalar_terms.specs.Ways.{AreFailures, Tells}
 

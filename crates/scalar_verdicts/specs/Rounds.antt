@@ -4,10 +4,10 @@ use Rattle.std.specs.declared.alloc.Global.{Global}
 use Rattle.std.specs.declared.vec.Vec.{Vec}
 use Rattle.mir_ir.specs.declared.tree.Function.{Function}
 use Rattle.sym_terms.specs.declared.term.Term.{Term}
-use Rattle.scalar_form.specs.declared.breach.Breach.{Breach}
+use Rattle.scalar_runs.specs.declared.breach.Breach.{Breach}
 use Rattle.scalar_checks.specs.declared.checks.Check.{Check}
-use Rattle.scalar_form.specs.declared.kinds.Choice.{Choice}
-use Rattle.scalar_form.specs.Run.{Faulted, run, start}
+use Rattle.scalar_runs.specs.declared.kinds.Choice.{Choice}
+use Rattle.scalar_runs.specs.Run.{Faulted, run, start}
 use Rattle.scalar_terms.specs.declared.failures.Failure.{Failure}
 use Rattle.scalar_terms.specs.declared.replays.FaultRun.{FaultRun}
 use Rattle.scalar_terms.specs.Faults.{FaultsWith}

@@ -6,11 +6,11 @@ use Rattle.region_pool.specs.Literals.{Satisfies}
 use Rattle.region_pool.specs.Log.{Line}
 use Rattle.region_pool.specs.Refutation.{IsSpent}
 use Rattle.bit_gates.specs.declared.gates.InputBit.{InputBit}
-use Rattle.scalar_form.specs.declared.breach.Breach.{Breach}
+use Rattle.scalar_runs.specs.declared.breach.Breach.{Breach}
 use Rattle.scalar_checks.specs.declared.checks.Check.{Check}
-use Rattle.scalar_form.specs.declared.kinds.Choice.{Choice}
+use Rattle.scalar_runs.specs.declared.kinds.Choice.{Choice}
 use Rattle.scalar_checks.specs.Checks.{checks_of}
-use Rattle.scalar_form.specs.Run.{Faulted, run, start}
+use Rattle.scalar_runs.specs.Run.{Faulted, run, start}
 use Rattle.scalar_terms.specs.Faults.{FaultsWith}
 use Rattle.scalar_terms.specs.Replays.{Reaches}
 use Rattle.term_queries.specs.Numbers.{AreNumbers}

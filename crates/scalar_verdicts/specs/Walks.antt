@@ -2,12 +2,12 @@
 use Rattle.std.specs.Prelude.{◌≡◌, ◌≤◌, ◌<◌, ◌+◌, ℕ, true, List, get_or}
 use Rattle.word_bits.specs.declared.word.Word.{Word}
 use Rattle.mir_ir.specs.declared.tree.Function.{Function}
-use Rattle.scalar_form.specs.declared.kinds.ValueKind.{ValueKind}
-use Rattle.scalar_form.specs.declared.step.Step.{Step}
-use Rattle.scalar_form.specs.declared.step.Step.TheVariants as step
-use Rattle.scalar_form.specs.Engine.{configuration}
-use Rattle.scalar_form.specs.Kinds.{is_value, width_of_kind}
-use Rattle.scalar_form.specs.Run.{Configuration, Stepped, Ends, Cuts, Faults, Chooses, Stuck, chosen, start}
+use Rattle.scalar_runs.specs.declared.kinds.ValueKind.{ValueKind}
+use Rattle.scalar_runs.specs.declared.step.Step.{Step}
+use Rattle.scalar_runs.specs.declared.step.Step.TheVariants as step
+use Rattle.scalar_runs.specs.Engine.{configuration}
+use Rattle.scalar_runs.specs.Kinds.{is_value, width_of_kind}
+use Rattle.scalar_runs.specs.Run.{Configuration, Stepped, Ends, Cuts, Faults, Chooses, Stuck, chosen, start}
 use Rattle.scalar_terms.specs.declared.replays.FaultRun.{FaultRun}
 use Rattle.scalar_terms.specs.Oracle.{oracle}
 use Rattle.scalar_verdicts.specs.declared.walks.Walk.{Walk}

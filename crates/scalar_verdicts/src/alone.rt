@@ -12,7 +12,7 @@ use crate::runs::{run_of, run_with};
 use mir_ir::Function;
 use sat_core::Effort;
 use scalar_checks::Check;
-use scalar_form::Breach;
+use scalar_runs::Breach;
 use scalar_terms::{Failure, FaultRun};
 use std::alloc::Global;
 use sym_terms::Terms;

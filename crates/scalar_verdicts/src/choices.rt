@@ -1,17 +1,15 @@
 ghost use Rattle.std.specs.Prelude.{◌≡◌, ◌*◌, ◌<◌, ◌≤◌, ◌^◌, false, get_or, min, nat_le};
-ghost use Rattle.scalar_form.specs.Look.{block_of};
-ghost use Rattle.scalar_form.specs.Size.{first_reached, marked, marked_arms, marked_block, marked_by, marked_next};
+ghost use Rattle.scalar_runs.specs.Look.{block_of};
+ghost use Rattle.scalar_form.specs.Size.{marked_block};
 ghost use Rattle.scalar_verdicts.specs.Choices.{block_choices, called_choices, choices_of, terminator_choices, values_of};
 
-use mir_ir::{Arm, Function, Terminator};
-use scalar_form::{Builtin, ValueKind, block_of, blocks_end, builtin_of};
+use mir_ir::{Function, Terminator};
+use scalar_form::{first_reached, mark_targets};
+use scalar_runs::{Builtin, ValueKind, block_of, blocks_end, builtin_of};
 use vk_core::BlockId;
 
 /// No budget that can be spent is so large.
 pub const MANY: u64 = 1 << 60;
-
-/// The blocks that a function can have: a number of a block is at most 4095.
-const BLOCKS: usize = 4096;
 
 /// How many words of so many bits there are, or `MANY` where there are more.
 fn words(width: u32) -> u64
@@ -59,62 +57,6 @@ fn terminator_choices(last: &Terminator) -> u64
         Terminator::Assert { .. } => 1,
         Terminator::Call { callee, .. } => called_choices(builtin_of(callee)),
     }
-}
-
-fn mark(marks: &mut [bool], target: BlockId)
-    ensures { marks.new ≡ marked marks.old target }
-{
-    let at = target.0 as usize;
-    if at < marks.len() {
-        marks[at] = true;
-    }
-}
-
-fn mark_arms(marks: &mut [bool], arms: &[Arm])
-    ensures { marks.new ≡ marked_arms marks.old arms.now }
-{
-    for arm in arms {
-        mark(marks, arm.target);
-    }
-}
-
-fn mark_next(marks: &mut [bool], next: Option<BlockId>)
-    ensures { marks.new ≡ marked_next marks.old next }
-{
-    match next {
-        None => {}
-        Some(next) => mark(marks, next),
-    }
-}
-
-/// Marks the blocks that the terminator goes to.
-fn mark_targets(marks: &mut [bool], last: &Terminator)
-    ensures { marks.new ≡ marked_by marks.old last.now }
-{
-    match last {
-        Terminator::Goto { target } => mark(marks, *target),
-        Terminator::Switch {
-            arms,
-            otherwise,
-            ..
-        } => {
-            mark_arms(marks, arms.as_slice());
-            mark(marks, *otherwise);
-        }
-        Terminator::Return | Terminator::Unreachable => {}
-        Terminator::Drop { next, .. } => mark(marks, *next),
-        Terminator::Assert { next, .. } => mark(marks, *next),
-        Terminator::Call { next, .. } => mark_next(marks, *next),
-    }
-}
-
-#[tactic(auto, unfolding(scalar_form::specs::Size::first_reached))]
-fn first_reached() -> [bool; BLOCKS]
-    ensures { result ≡ first_reached }
-{
-    let mut marks = [false; BLOCKS];
-    marks[0] = true;
-    marks
 }
 
 /// In how many ways the block with this number chooses, and marks the blocks that it goes to, where it is reached.

@@ -3,7 +3,7 @@ ghost use Rattle.value_terms.specs.Made.{IsTest};
 ghost use Rattle.scalar_terms.specs.Ways.{AreFailures};
 ghost use Rattle.scalar_verdicts.specs.Failures.{AreOthers, AreOwn, IsOtherPut, IsOwnPut, any_holds};
 
-use scalar_form::Breach;
+use scalar_runs::Breach;
 use scalar_terms::Failure;
 use std::alloc::Global;
 use sym_terms::{TermId, Terms};

@@ -3,7 +3,7 @@ ghost use Rattle.scalar_verdicts.specs.Rounds.{AreKnown, IsFailureOf, IsKnownOf}
 
 use crate::runs::run_of;
 use scalar_checks::Check;
-use scalar_form::Breach;
+use scalar_runs::Breach;
 use scalar_terms::FaultRun;
 use std::alloc::Global;
 use unit_reports::{CheckStatus, Outcome};

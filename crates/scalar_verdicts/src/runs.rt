@@ -4,7 +4,7 @@ ghost use Rattle.scalar_terms.specs.Replays.{IsFaultRun};
 ghost use Rattle.scalar_verdicts.specs.Runs.{FaultsSomehow, HasRun, IsNoted, IsReplayed, IsRunTo};
 
 use mir_ir::Function;
-use scalar_form::Breach;
+use scalar_runs::Breach;
 use scalar_terms::{FaultRun, replay};
 use std::alloc::Global;
 use vk_core::NoMemory;

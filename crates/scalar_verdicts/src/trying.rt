@@ -1,14 +1,14 @@
 ghost use Rattle.std.specs.Prelude.{◌≡◌, ◌-◌, ◌^◌, ◌≤◌, ◌<◌, OnOk, true};
-ghost use Rattle.scalar_form.specs.Engine.{configuration};
+ghost use Rattle.scalar_runs.specs.Engine.{configuration};
 ghost use Rattle.scalar_form.specs.Form.{is_scalar};
-ghost use Rattle.scalar_form.specs.Kinds.{width_of_kind};
-ghost use Rattle.scalar_form.specs.Run.{Chooses, start, step};
+ghost use Rattle.scalar_runs.specs.Kinds.{width_of_kind};
+ghost use Rattle.scalar_runs.specs.Run.{Chooses, start, step};
 ghost use Rattle.scalar_verdicts.specs.Walks.{Explored, IsGreatest, IsWalk, Tried, TriedOne};
 
 use crate::runs::note_replay;
 use crate::walks::{Walk, branch_of, first_walk, go_on};
 use mir_ir::Function;
-use scalar_form::{Step, ValueKind};
+use scalar_runs::{Step, ValueKind};
 use scalar_terms::FaultRun;
 use std::alloc::Global;
 use vk_core::{BlockId, LocalId, NoMemory};

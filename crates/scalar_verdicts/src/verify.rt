@@ -1,6 +1,6 @@
 ghost use Rattle.std.specs.Prelude.{◌≡◌, ◌≤◌, ◌<◌, ◌^◌, ◌+◌, ◌*◌, IfOk, true};
 ghost use Rattle.scalar_form.specs.Form.{is_scalar};
-ghost use Rattle.scalar_form.specs.Run.{start};
+ghost use Rattle.scalar_runs.specs.Run.{start};
 ghost use Rattle.scalar_verdicts.specs.Runs.{Covers, EachReached};
 ghost use Rattle.scalar_verdicts.specs.Statuses.{FitStatuses, IsPaid, NeverFaults, NoneIsSpent, spent_count};
 ghost use Rattle.unit_reports.specs.Verdicts.{verdict_of};

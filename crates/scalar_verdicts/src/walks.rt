@@ -1,12 +1,12 @@
 ghost use Rattle.std.specs.Prelude.{◌≡◌, ◌<◌, ◌≤◌, ◌^◌, ℕ, IfOk, OnOk, None, get_or, replicate, true, vec_len};
-ghost use Rattle.scalar_form.specs.Engine.{configuration};
+ghost use Rattle.scalar_runs.specs.Engine.{configuration};
 ghost use Rattle.scalar_form.specs.Form.{is_scalar};
-ghost use Rattle.scalar_form.specs.Kinds.{is_value};
-ghost use Rattle.scalar_form.specs.Run.{Chooses, start, step};
+ghost use Rattle.scalar_runs.specs.Kinds.{is_value};
+ghost use Rattle.scalar_runs.specs.Run.{Chooses, start, step};
 ghost use Rattle.scalar_verdicts.specs.Walks.{HasGone, IsBranch, IsPut, IsStop, IsWalk};
 
 use mir_ir::Function;
-use scalar_form::{State, Step, ValueKind, locals_end, store, take_step};
+use scalar_runs::{State, Step, ValueKind, locals_end, store, take_step};
 use std::alloc::Global;
 use vk_core::{BlockId, LocalId, NoMemory};
 use word_bits::Word;
@@ -20,7 +20,7 @@ pub struct Walk {
 }
 
 /// Where runs begin.
-#[tactic(auto, unfolding(scalar_form::specs::Run::start))]
+#[tactic(auto, unfolding(scalar_runs::specs::Run::start))]
 fn begin(alloc: Global, function: &Function) -> Result<State, NoMemory>
     ensures { IfOk result (λ state. configuration state ≡ start function.now) }
 {

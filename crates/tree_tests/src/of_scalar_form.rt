@@ -1,6 +1,7 @@
 use mir_ir::{Block, Function, Local, Terminator, Ty};
 use scalar_checks::checks_of;
 use scalar_form::*;
+use scalar_runs::*;
 use sqlite_items::Items;
 use std::alloc::Global;
 use std::test::Fail;

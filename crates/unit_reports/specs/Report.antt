@@ -2,9 +2,9 @@
 use Rattle.std.specs.Prelude.{ℕ, ◌+◌, List, [], ◌∷◌, ◌++◌, codes, length}
 use Rattle.std.specs.Fmt.{decimal}
 use Rattle.vk_core.specs.Class.{name_of_class}
-use Rattle.scalar_form.specs.declared.breach.Breach.{Breach}
+use Rattle.scalar_runs.specs.declared.breach.Breach.{Breach}
 use Rattle.scalar_checks.specs.declared.checks.Check.{Check}
-use Rattle.scalar_form.specs.declared.kinds.Choice.{Choice}
+use Rattle.scalar_runs.specs.declared.kinds.Choice.{Choice}
 use Rattle.unit_reports.specs.declared.status.CheckStatus.{CheckStatus}
 use Rattle.unit_reports.specs.declared.status.Outcome as status
 use Rattle.unit_reports.specs.declared.status.Outcome.TheVariants as outcome

@@ -3,9 +3,9 @@ use Rattle.std.specs.Prelude.{ℕ, ◌-◌, ◌^◌, ◌&&◌, ◌==◌, nat_le,
 use Rattle.std.specs.Fmt.{decimal}
 use Rattle.mir_ir.specs.declared.types.IntTy.{IntTy}
 use Rattle.mir_ir.specs.Integers.{is_signed, width_of}
-use Rattle.scalar_form.specs.declared.kinds.Choice.{Choice}
-use Rattle.scalar_form.specs.declared.kinds.ValueKind.{ValueKind}
-use Rattle.scalar_form.specs.declared.kinds.ValueKind.TheVariants as kind
+use Rattle.scalar_runs.specs.declared.kinds.Choice.{Choice}
+use Rattle.scalar_runs.specs.declared.kinds.ValueKind.{ValueKind}
+use Rattle.scalar_runs.specs.declared.kinds.ValueKind.TheVariants as kind
 
 -- the number that a bit pattern of the type is in two's complement
 unfoldable pub integer_text : IntTy → ℕ → List ℕ

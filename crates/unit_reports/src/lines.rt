@@ -5,7 +5,7 @@ use crate::pushes::{push_class, push_decimal, push_name, push_text};
 use crate::status::{CheckStatus, Outcome};
 use crate::values::push_choices;
 use scalar_checks::Check;
-use scalar_form::{Breach, Choice};
+use scalar_runs::{Breach, Choice};
 use vk_core::{Name, NoMemory};
 
 fn push_site(out: &mut Vec<u8>, function: &Name, breach: &Breach) -> Result<(), NoMemory>

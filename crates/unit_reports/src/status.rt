@@ -1,5 +1,5 @@
 use scalar_checks::Check;
-use scalar_form::Choice;
+use scalar_runs::Choice;
 use vk_core::Name;
 
 /// What is told of a check.

@@ -3,7 +3,7 @@ ghost use Rattle.unit_reports.specs.Values.{choice_text, choices_text, integer_t
 
 use crate::pushes::{push_decimal, push_text};
 use mir_ir::IntTy;
-use scalar_form::{Choice, ValueKind};
+use scalar_runs::{Choice, ValueKind};
 use vk_core::NoMemory;
 
 /// A truth value, by its number.

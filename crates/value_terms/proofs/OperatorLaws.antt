@@ -12,9 +12,9 @@ use Rattle.sym_terms.specs.declared.term.Term.{Term}
 use Rattle.sym_terms.specs.declared.term.TermOp.{TermOp}
 use Rattle.sym_terms.specs.Ops.{is_binary, is_shift as is_term_shift, is_test}
 use Rattle.sym_terms.specs.Terms.{AreOperands, IsValue, Keeps, applied, is_shift_width, op_width, truth, value, width_of}
-use Rattle.scalar_form.specs.Kinds.{is_word}
-use Rattle.scalar_form.specs.Operators.{are_operands, is_shift, lawful, operated, operator_value, truth as truth_of}
-use Rattle.scalar_form.proofs.OperandLaws.{both_true, test_of_word}
+use Rattle.scalar_runs.specs.Kinds.{is_word}
+use Rattle.scalar_runs.specs.Operators.{are_operands, is_shift, lawful, operated, operator_value, truth as truth_of}
+use Rattle.scalar_runs.proofs.OperandLaws.{both_true, test_of_word}
 use Rattle.value_terms.specs.declared.operators.OpTerms.{OpTerms}
 use Rattle.value_terms.specs.Made.{IsMade, IsTest, holds}
 use Rattle.value_terms.specs.Operators.{FitsOperator, IsOperator, OperatorIs, divides, inverted, is_inverted, is_scalar_op, is_swapped, lawful_op, lawful_value, result_width, term_op, word_value}

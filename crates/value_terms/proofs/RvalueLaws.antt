@@ -16,12 +16,12 @@ use Rattle.sym_terms.specs.declared.term.TermOp.{TermOp}
 use Rattle.sym_terms.specs.declared.term.TermOp.TheVariants.{Not, Neg}
 use Rattle.sym_terms.specs.Ops.{is_binary, is_shift as is_term_shift}
 use Rattle.sym_terms.specs.Terms.{AreOperands, IsValue, Keeps, op_width, value, width_of}
-use Rattle.scalar_form.specs.declared.kinds.ValueKind.{ValueKind}
-use Rattle.scalar_form.specs.Kinds.{is_word}
-use Rattle.scalar_form.specs.Operators.{binary_value, cast_value, operator_value, recast_value, unary_value}
+use Rattle.scalar_runs.specs.declared.kinds.ValueKind.{ValueKind}
+use Rattle.scalar_runs.specs.Kinds.{is_word}
+use Rattle.scalar_runs.specs.Operators.{binary_value, cast_value, operator_value, recast_value, unary_value}
 use Rattle.scalar_form.specs.Typing.{binary_kind, cast_kind, has_kind, operand_kind, recast_kind, rvalue_kind}
-use Rattle.scalar_form.specs.Values.{Values, kind_of_operand, operand_value, rvalue_value}
-use Rattle.scalar_form.proofs.OperandLaws.{test_of_word}
+use Rattle.scalar_runs.specs.Values.{Values, kind_of_operand, operand_value, rvalue_value}
+use Rattle.scalar_runs.proofs.OperandLaws.{test_of_word}
 use Rattle.value_terms.specs.declared.slots.Slot.{Slot}
 use Rattle.value_terms.specs.declared.rvalues.ValueTerms.{ValueTerms}
 use Rattle.value_terms.specs.Made.{Grown, IsBit, IsMade, IsTest, holds}

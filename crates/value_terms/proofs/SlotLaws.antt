@@ -14,14 +14,14 @@ use Rattle.mir_ir.specs.declared.tree.Operand.{Operand}
 use Rattle.mir_ir.specs.Integers.{width_of as int_width}
 use Rattle.sym_terms.specs.declared.term.Term.{Term}
 use Rattle.sym_terms.specs.Terms.{value}
-use Rattle.scalar_form.specs.declared.kinds.ValueKind.{ValueKind}
-use Rattle.scalar_form.specs.declared.kinds.ValueKind.TheVariants as kind
-use Rattle.scalar_form.specs.Kinds.{has_bytes, is_scalar_value, is_word, kind_of, width_of_kind}
-use Rattle.scalar_form.specs.Look.{local_kind, locals_end}
-use Rattle.scalar_form.specs.Operators.{truth}
+use Rattle.scalar_runs.specs.declared.kinds.ValueKind.{ValueKind}
+use Rattle.scalar_runs.specs.declared.kinds.ValueKind.TheVariants as kind
+use Rattle.scalar_runs.specs.Kinds.{has_bytes, is_scalar_value, is_word, kind_of, width_of_kind}
+use Rattle.scalar_runs.specs.Look.{local_kind, locals_end}
+use Rattle.scalar_runs.specs.Operators.{truth}
 use Rattle.scalar_form.specs.Typing.{has_kind, is_constant, is_plain, operand_kind}
-use Rattle.scalar_form.specs.Values.{Values, held_value, kind_of_constant, kind_of_operand, no_bits, operand_value, read_as, read_local, word_of_constant}
-use Rattle.scalar_form.proofs.OperandLaws.{and_left, and_right, word_of_test}
+use Rattle.scalar_runs.specs.Values.{Values, held_value, kind_of_constant, kind_of_operand, no_bits, operand_value, read_as, read_local, word_of_constant}
+use Rattle.scalar_runs.proofs.OperandLaws.{and_left, and_right, word_of_test}
 use Rattle.value_terms.specs.declared.slots.Slot.{Slot}
 use Rattle.value_terms.specs.Made.{IsMade, IsTest, holds}
 use Rattle.value_terms.specs.Slots.{AreSlots, IsRead, IsSlot, ReadIs, SlotIs, slot_width}

@@ -6,10 +6,10 @@ use Rattle.mir_ir.specs.declared.tree.BinaryOp.{BinaryOp}
 use Rattle.mir_ir.specs.declared.tree.BinaryOp.TheVariants as op
 use Rattle.mir_ir.specs.Integers.{width_of, is_signed}
 use Rattle.sym_terms.specs.Terms.{is_shift_width}
-use Rattle.scalar_form.specs.declared.kinds.ValueKind.{ValueKind}
-use Rattle.scalar_form.specs.declared.kinds.ValueKind.TheVariants as kind
-use Rattle.scalar_form.specs.Kinds.{same_int}
-use Rattle.scalar_form.specs.Operators.{is_shift}
+use Rattle.scalar_runs.specs.declared.kinds.ValueKind.{ValueKind}
+use Rattle.scalar_runs.specs.declared.kinds.ValueKind.TheVariants as kind
+use Rattle.scalar_runs.specs.Kinds.{same_int}
+use Rattle.scalar_runs.specs.Operators.{is_shift}
 use Rattle.scalar_form.specs.Typing.{binary_kind, bits_kind, has_kind, integers_kind, neg_kind, not_kind, order_kind, recast_kind, shift_kind}
 use Rattle.value_terms.specs.Operators.{FitsOperator, is_scalar_op, result_width}
 use Rattle.value_terms.specs.Slots.{slot_width}

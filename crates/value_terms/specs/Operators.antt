@@ -10,7 +10,7 @@ use Rattle.sym_terms.specs.declared.term.Term.{Term}
 use Rattle.sym_terms.specs.declared.term.TermOp.{TermOp}
 use Rattle.sym_terms.specs.declared.term.TermOp.TheVariants as term
 use Rattle.sym_terms.specs.Terms.{applied, is_shift_width, op_width, value, width_of}
-use Rattle.scalar_form.specs.Operators.{is_shift, operator_value}
+use Rattle.scalar_runs.specs.Operators.{is_shift, operator_value}
 use Rattle.value_terms.specs.declared.operators.OpTerms.{OpTerms}
 use Rattle.value_terms.specs.Made.{Grown, IsBit, holds}
 

@@ -6,8 +6,8 @@ use Rattle.vk_core.specs.declared.check.CheckClass.TheVariants as class
 use Rattle.mir_ir.specs.declared.tree.Function.{Function}
 use Rattle.sym_terms.specs.declared.term.Term.{Term}
 use Rattle.sym_terms.specs.Terms.{value, width_of}
-use Rattle.scalar_form.specs.declared.kinds.ValueKind.{ValueKind}
-use Rattle.scalar_form.specs.Values.{Values}
+use Rattle.scalar_runs.specs.declared.kinds.ValueKind.{ValueKind}
+use Rattle.scalar_runs.specs.Values.{Values}
 use Rattle.value_terms.specs.declared.slots.Slot.{Slot}
 use Rattle.value_terms.specs.declared.rvalues.ValueTerms.{ValueTerms}
 use Rattle.value_terms.specs.Made.{Grown, IsBit, holds}

@@ -1,10 +1,10 @@
 ghost use Rattle.std.specs.Prelude.{◌≡◌, ◌<◌, IfOk, Some, false, true};
 ghost use Rattle.sym_terms.specs.Ops.{is_binary};
 ghost use Rattle.sym_terms.specs.Terms.{applied};
-ghost use Rattle.scalar_form.specs.Kinds.{width_of_kind};
-ghost use Rattle.scalar_form.specs.Operators.{binary_value, cast_value, neg_value, not_value, recast_value, unary_value};
+ghost use Rattle.scalar_runs.specs.Kinds.{width_of_kind};
+ghost use Rattle.scalar_runs.specs.Operators.{binary_value, cast_value, neg_value, not_value, recast_value, unary_value};
 ghost use Rattle.scalar_form.specs.Typing.{binary_kind, cast_kind, has_kind, neg_kind, not_kind, operand_kind, rvalue_kind};
-ghost use Rattle.scalar_form.specs.Values.{is_signed_operand, operand_value, rvalue_value};
+ghost use Rattle.scalar_runs.specs.Values.{is_signed_operand, operand_value, rvalue_value};
 ghost use Rattle.value_terms.specs.Rvalues.{IsRvalue};
 ghost use Rattle.value_terms.specs.Slots.{AreSlots};
 
@@ -12,7 +12,7 @@ use crate::made::{apply, bit, both, cast};
 use crate::operators::operator_terms;
 use crate::slots::{Slot, read};
 use mir_ir::{BinaryOp, CastKind, Function, Operand, Rvalue};
-use scalar_form::{ValueKind, is_signed_operand, kind_of};
+use scalar_runs::{ValueKind, is_signed_operand, kind_of};
 use sym_terms::{TermId, TermOp, Terms};
 use vk_core::NoMemory;
 

@@ -1,14 +1,14 @@
 ghost use Rattle.std.specs.Prelude.{◌≡◌, ◌<◌, IfOk, Ok, Some, length, slice_get, true};
 ghost use Rattle.word_bits.specs.Words.{IsWord};
-ghost use Rattle.scalar_form.specs.Look.{local_kind};
+ghost use Rattle.scalar_runs.specs.Look.{local_kind};
 ghost use Rattle.scalar_form.specs.Typing.{has_kind, operand_kind};
-ghost use Rattle.scalar_form.specs.Values.{kind_of_operand, operand_value, read_local};
+ghost use Rattle.scalar_runs.specs.Values.{kind_of_operand, operand_value, read_local};
 ghost use Rattle.value_terms.specs.Slots.{AreSlots, IsRead};
 ghost use Rattle.value_terms.specs.Reads.{IsKnownSlot};
 
 use crate::made::{bit, constant};
 use mir_ir::{Function, Operand};
-use scalar_form::{local_kind, word_of_constant};
+use scalar_runs::{local_kind, word_of_constant};
 use sym_terms::{TermId, Terms};
 use vk_core::{LocalId, NoMemory};
 use word_bits::Word;

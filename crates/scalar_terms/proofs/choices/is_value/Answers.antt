@@ -1,5 +1,5 @@
 use Rattle.std.proofs.Common.{ap, ◌∙◌}
-use Rattle.scalar_form.specs.Kinds.{width_of_kind}
+use Rattle.scalar_runs.specs.Kinds.{width_of_kind}
 use Rattle.scalar_terms.proofs.ChoiceLaws.{bits_made, char_made, plain_bits}
 use Rattle.scalar_terms.proofs.choices.is_value.Goals as goal
 

@@ -1,5 +1,5 @@
 use Rattle.std.proofs.Common.{ap, ◌∙◌, None, replicate}
-use Rattle.scalar_form.specs.Look.{blocks_end}
+use Rattle.scalar_runs.specs.Look.{blocks_end}
 use Rattle.scalar_terms.proofs.AheadLaws.{few_locals}
 use Rattle.scalar_terms.proofs.faults.faults_of.Goals as goal
 

@@ -1,6 +1,6 @@
 use Rattle.std.proofs.Common.{sym, ap, subst, ◌∙◌, ◌<◌, ◌≤◌, length, None}
 use Rattle.std.proofs.lemmas.List.{length-replicate}
-use Rattle.scalar_form.specs.Look.{blocks_end}
+use Rattle.scalar_runs.specs.Look.{blocks_end}
 use Rattle.scalar_form.proofs.FormLaws.{parts_of}
 use Rattle.scalar_terms.specs.Sweeps.{AreSwept, HaveRoom}
 use Rattle.scalar_terms.proofs.AheadLaws.{few_blocks, have_room}

@@ -1,8 +1,8 @@
 use Rattle.std.proofs.Common.{Vec, Global, refl, sym, ap, subst, arith, ◌+◌, ◌≡◌, ◌≤◌, get_or, []}
-use Rattle.scalar_form.specs.declared.kinds.Choice.{Choice}
-use Rattle.scalar_form.specs.declared.step.State.{State}
-use Rattle.scalar_form.specs.Engine.{configuration}
-use Rattle.scalar_form.specs.Run.{Configuration}
+use Rattle.scalar_runs.specs.declared.kinds.Choice.{Choice}
+use Rattle.scalar_runs.specs.declared.step.State.{State}
+use Rattle.scalar_runs.specs.Engine.{configuration}
+use Rattle.scalar_runs.specs.Run.{Configuration}
 use Rattle.scalar_terms.specs.Replays.{HasCome}
 use Rattle.scalar_terms.proofs.ReplayLaws.{chosen_on, come_on, come_start, faulted_at, none_cut, none_ended, none_longer, none_made, none_stuck}
 use Rattle.scalar_terms.proofs.replays.replay.Goals as goal

@@ -1,5 +1,5 @@
 use Rattle.std.proofs.Common.{get_or}
-use Rattle.scalar_form.specs.Engine.{configuration}
+use Rattle.scalar_runs.specs.Engine.{configuration}
 use Rattle.scalar_terms.specs.Replays.{HasCome}
 use Rattle.scalar_terms.proofs.replays.replay.Given as goal
 

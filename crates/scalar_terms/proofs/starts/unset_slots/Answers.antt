@@ -1,5 +1,5 @@
 use Rattle.std.proofs.Common.{arith, ap, ◌≡◌, ◌∙◌}
-use Rattle.scalar_form.specs.Look.{locals_end}
+use Rattle.scalar_runs.specs.Look.{locals_end}
 use Rattle.scalar_terms.proofs.StartLaws.{more_unset, none_unset}
 use Rattle.scalar_terms.proofs.starts.unset_slots.Goals as goal
 

@@ -1,5 +1,5 @@
 use Rattle.vk_core.specs.declared.check.CheckClass.TheVariants as class
-use Rattle.scalar_form.specs.Run.{Faults}
+use Rattle.scalar_runs.specs.Run.{Faults}
 use Rattle.scalar_terms.proofs.TurnLaws.{first_condition, first_tested, led_as, no_condition}
 use Rattle.scalar_terms.proofs.terminators.assert_call.Goals as goal
 

@@ -1,4 +1,4 @@
-use Rattle.scalar_form.specs.Run.{Cuts}
+use Rattle.scalar_runs.specs.Run.{Cuts}
 use Rattle.scalar_terms.proofs.TurnLaws.{first_condition, first_tested, led_as, no_condition}
 use Rattle.scalar_terms.proofs.terminators.assume_call.Goals as goal
 

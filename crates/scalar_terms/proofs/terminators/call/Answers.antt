@@ -1,6 +1,6 @@
 use Rattle.std.proofs.Common.{None, Some, refl}
 use Rattle.std.proofs.lemmas.Bool.{false≢true}
-use Rattle.scalar_form.specs.declared.builtins.Builtin.TheVariants as builtin
+use Rattle.scalar_runs.specs.declared.builtins.Builtin.TheVariants as builtin
 use Rattle.scalar_form.specs.Typing.{place_kind}
 use Rattle.scalar_terms.proofs.TurnLaws.{call_form, called_led, panic_called}
 use Rattle.scalar_terms.proofs.terminators.call.Goals as goal

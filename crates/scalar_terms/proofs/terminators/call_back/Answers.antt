@@ -1,7 +1,7 @@
 use Rattle.std.proofs.Common.{Some}
-use Rattle.scalar_form.specs.declared.builtins.Builtin.TheVariants as builtin
+use Rattle.scalar_runs.specs.declared.builtins.Builtin.TheVariants as builtin
 use Rattle.scalar_form.specs.Typing.{is_any_call, is_assert_call, is_assume_call, is_target, place_kind}
-use Rattle.scalar_form.proofs.OperandLaws.{and_left, and_right}
+use Rattle.scalar_runs.proofs.OperandLaws.{and_left, and_right}
 use Rattle.scalar_terms.proofs.TurnLaws.{any_agrees, assert_condition, assume_condition, builtin_form, builtin_led, panic_returns, target_inside}
 use Rattle.scalar_terms.proofs.terminators.call_back.Goals as goal
 

@@ -1,6 +1,6 @@
 use Rattle.mir_ir.specs.declared.tree.Terminator.TheVariants as terminator
 use Rattle.scalar_form.specs.Typing.{is_target}
-use Rattle.scalar_form.proofs.OperandLaws.{and_right}
+use Rattle.scalar_runs.proofs.OperandLaws.{and_right}
 use Rattle.scalar_terms.proofs.TurnLaws.{assert_truth, ended_made, form_of, led_of, target_inside}
 use Rattle.scalar_terms.proofs.terminators.finish.Goals as goal
 

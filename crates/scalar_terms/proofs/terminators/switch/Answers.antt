@@ -1,6 +1,6 @@
 use Rattle.std.proofs.Common.{subst, sym, ◌∙◌, length}
 use Rattle.scalar_form.specs.Typing.{are_arms, is_target, operand_kind}
-use Rattle.scalar_form.proofs.OperandLaws.{and_left, and_right}
+use Rattle.scalar_runs.proofs.OperandLaws.{and_left, and_right}
 use Rattle.value_terms.specs.Slots.{AreSlots, slot_width}
 use Rattle.value_terms.proofs.MadeLaws.{bit_kept, grown_trans}
 use Rattle.value_terms.proofs.RvalueLaws.{inside_kept, slots_kept, width_read}

@@ -1,5 +1,5 @@
 use Rattle.std.proofs.Common.{Vec, Global, ◌≡◌, ◌+◌, ◌≤◌, arith, get_or, subst, sym}
-use Rattle.scalar_form.specs.Engine.{configuration}
+use Rattle.scalar_runs.specs.Engine.{configuration}
 use Rattle.scalar_terms.specs.declared.replays.FaultRun.{FaultRun}
 use Rattle.scalar_verdicts.specs.Runs.{IsReplayed}
 use Rattle.scalar_verdicts.specs.Walks.{Explored, Tried}

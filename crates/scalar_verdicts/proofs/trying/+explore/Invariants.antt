@@ -1,5 +1,5 @@
 use Rattle.std.proofs.Common.{◌+◌, ◌-◌, ◌*◌}
-use Rattle.scalar_form.specs.Engine.{configuration}
+use Rattle.scalar_runs.specs.Engine.{configuration}
 use Rattle.scalar_verdicts.specs.Walks.{Tried}
 use Rattle.scalar_verdicts.proofs.trying.+explore.Given as goal
 

@@ -1,6 +1,6 @@
 use Rattle.std.proofs.Common.{refl}
 use Rattle.word_bits.specs.Words.{recast}
-use Rattle.scalar_form.specs.Kinds.{width_of_kind}
+use Rattle.scalar_runs.specs.Kinds.{width_of_kind}
 use Rattle.value_terms.proofs.RvalueLaws.{unary_made}
 use Rattle.value_terms.proofs.rvalues.cast_terms.Goals as goal
 

@@ -1,5 +1,5 @@
 use Rattle.std.proofs.Common.{ap}
-use Rattle.scalar_form.specs.Values.{kind_of_operand, operand_value}
+use Rattle.scalar_runs.specs.Values.{kind_of_operand, operand_value}
 use Rattle.value_terms.proofs.SlotLaws.{read_copied}
 use Rattle.value_terms.proofs.slots.read.Goals as goal
 

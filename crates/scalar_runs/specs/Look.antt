@@ -3,8 +3,8 @@ use Rattle.std.specs.Prelude.{ℕ, ◌+◌, max, ◌==◌, List, [], ◌∷◌, 
 use Rattle.mir_ir.specs.declared.tree.Local.{Local}
 use Rattle.mir_ir.specs.declared.tree.Block.{Block}
 use Rattle.mir_ir.specs.declared.tree.Function.{Function}
-use Rattle.scalar_form.specs.declared.kinds.ValueKind.{ValueKind}
-use Rattle.scalar_form.specs.Kinds.{kind_of}
+use Rattle.scalar_runs.specs.declared.kinds.ValueKind.{ValueKind}
+use Rattle.scalar_runs.specs.Kinds.{kind_of}
 
 -- the kind of the local with this number, where there is one of a scalar type
 abbrev pub local_kind : Function → ℕ → Option ValueKind

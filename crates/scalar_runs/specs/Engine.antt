@@ -1,9 +1,9 @@
 -- What is kept of a run, and what a step does to it.
 use Rattle.std.specs.Prelude.{◌≡◌}
-use Rattle.scalar_form.specs.Run as run
-use Rattle.scalar_form.specs.declared.step.State.{State}
-use Rattle.scalar_form.specs.declared.step.Step.{Step}
-use Rattle.scalar_form.specs.declared.step.Step.TheVariants as step
+use Rattle.scalar_runs.specs.Run as run
+use Rattle.scalar_runs.specs.declared.step.State.{State}
+use Rattle.scalar_runs.specs.declared.step.Step.{Step}
+use Rattle.scalar_runs.specs.declared.step.Step.TheVariants as step
 
 -- where a run stands, in the terms of runs
 abbrev pub configuration : State → run.Configuration

@@ -1,6 +1,6 @@
 ghost use Rattle.std.specs.Prelude.{◌≡◌, ◌≤◌, ◌^◌, ◌==◌, find};
 ghost use Rattle.std.specs.Option.{option_copied};
-ghost use Rattle.scalar_form.specs.Look.{block_of, blocks_end, local_kind, locals_end};
+ghost use Rattle.scalar_runs.specs.Look.{block_of, blocks_end, local_kind, locals_end};
 
 use crate::kinds::{ValueKind, kind_of};
 use mir_ir::{Block, Function, Local};

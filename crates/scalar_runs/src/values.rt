@@ -1,5 +1,5 @@
 ghost use Rattle.std.specs.Prelude.{◌≡◌, None, slice_index_or};
-ghost use Rattle.scalar_form.specs.Values.{held_value, is_signed_operand, kind_of_constant, kind_of_operand, operand_value, read_local, rvalue_value, signed_of, word_of_constant};
+ghost use Rattle.scalar_runs.specs.Values.{held_value, is_signed_operand, kind_of_constant, kind_of_operand, operand_value, read_local, rvalue_value, signed_of, word_of_constant};
 
 use crate::kinds::{ValueKind, kind_of};
 use crate::look::local_kind;

@@ -1,6 +1,6 @@
 ghost use Rattle.std.specs.Prelude.{◌≡◌, ◌+◌, ◌<◌, ◌^◌, Some, true};
-ghost use Rattle.scalar_form.specs.Engine.{Does, configuration};
-ghost use Rattle.scalar_form.specs.Run.{Cuts, Faults, Goes, Stepped, assigned, block_step, builtin_step, call_step, entry_of, is_expected, step, stored, switched, target_of, terminator_step, tested};
+ghost use Rattle.scalar_runs.specs.Engine.{Does, configuration};
+ghost use Rattle.scalar_runs.specs.Run.{Cuts, Faults, Goes, Stepped, assigned, block_step, builtin_step, call_step, entry_of, is_expected, step, stored, switched, target_of, terminator_step, tested};
 
 use crate::builtins::{Builtin, builtin_of};
 use crate::kinds::ValueKind;

@@ -6,8 +6,8 @@ use Rattle.word_bits.specs.declared.word.Word.{Word}
 use Rattle.word_bits.specs.Words.{IsWord, AreWords}
 use Rattle.word_bits.proofs.Kept.{words_of}
 use Rattle.mir_ir.specs.declared.tree.BinaryOp.{BinaryOp}
-use Rattle.scalar_form.specs.Kinds.{is_word}
-use Rattle.scalar_form.specs.Operators.{are_operands, is_shift}
+use Rattle.scalar_runs.specs.Kinds.{is_word}
+use Rattle.scalar_runs.specs.Operators.{are_operands, is_shift}
 
 pub and_left : (a b : Bool) → (a && b) ≡ true → a ≡ true
 and_left true b h = refl

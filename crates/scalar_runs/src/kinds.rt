@@ -1,5 +1,5 @@
 ghost use Rattle.std.specs.Prelude.{◌≡◌, ◌≤◌};
-ghost use Rattle.scalar_form.specs.Kinds.{has_bytes, is_choice_of, is_scalar_value, is_signed_kind, is_value, is_word, kind_of, same_int, same_kind, width_of_kind};
+ghost use Rattle.scalar_runs.specs.Kinds.{has_bytes, is_choice_of, is_scalar_value, is_signed_kind, is_value, is_word, kind_of, same_int, same_kind, width_of_kind};
 
 use mir_ir::{IntTy, Ty};
 use word_bits::Word;

@@ -12,15 +12,15 @@ use Rattle.mir_ir.specs.declared.tree.Terminator.{Terminator}
 use Rattle.mir_ir.specs.declared.tree.Terminator.TheVariants as terminator
 use Rattle.mir_ir.specs.declared.tree.Block.{Block}
 use Rattle.mir_ir.specs.declared.tree.Function.{Function}
-use Rattle.scalar_form.specs.declared.kinds.Choice.{Choice}
-use Rattle.scalar_form.specs.declared.kinds.ValueKind.{ValueKind}
-use Rattle.scalar_form.specs.declared.builtins.Builtin.{Builtin}
-use Rattle.scalar_form.specs.declared.builtins.Builtin.TheVariants as builtin
-use Rattle.scalar_form.specs.declared.breach.Breach.{Breach}
-use Rattle.scalar_form.specs.Builtins.{builtin_of}
-use Rattle.scalar_form.specs.Kinds.{is_choice_of}
-use Rattle.scalar_form.specs.Look.{block_of, locals_end}
-use Rattle.scalar_form.specs.Values.{Values, operand_value, rvalue_value}
+use Rattle.scalar_runs.specs.declared.kinds.Choice.{Choice}
+use Rattle.scalar_runs.specs.declared.kinds.ValueKind.{ValueKind}
+use Rattle.scalar_runs.specs.declared.builtins.Builtin.{Builtin}
+use Rattle.scalar_runs.specs.declared.builtins.Builtin.TheVariants as builtin
+use Rattle.scalar_runs.specs.declared.breach.Breach.{Breach}
+use Rattle.scalar_runs.specs.Builtins.{builtin_of}
+use Rattle.scalar_runs.specs.Kinds.{is_choice_of}
+use Rattle.scalar_runs.specs.Look.{block_of, locals_end}
+use Rattle.scalar_runs.specs.Values.{Values, operand_value, rvalue_value}
 
 -- where a run stands, and what each local holds
 pub record Configuration : Type 0 where

@@ -10,8 +10,8 @@ use Rattle.mir_ir.specs.declared.tree.BinaryOp.{BinaryOp}
 use Rattle.mir_ir.specs.declared.tree.BinaryOp.TheVariants as op
 use Rattle.mir_ir.specs.declared.tree.CastKind.{CastKind}
 use Rattle.mir_ir.specs.declared.tree.CastKind.TheVariants as cast
-use Rattle.scalar_form.specs.declared.kinds.ValueKind.{ValueKind}
-use Rattle.scalar_form.specs.Kinds.{is_word, width_of_kind}
+use Rattle.scalar_runs.specs.declared.kinds.ValueKind.{ValueKind}
+use Rattle.scalar_runs.specs.Kinds.{is_word, width_of_kind}
 
 -- a truth value as a word of one bit
 abbrev pub truth : Bool → Word

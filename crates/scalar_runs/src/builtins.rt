@@ -1,5 +1,5 @@
 ghost use Rattle.std.specs.Prelude.{◌≡◌};
-ghost use Rattle.scalar_form.specs.Builtins.{any_of, builtin_of, is_any, is_assert, is_assume, is_panic};
+ghost use Rattle.scalar_runs.specs.Builtins.{any_of, builtin_of, is_any, is_assert, is_assume, is_panic};
 
 use crate::kinds::{ValueKind, kind_of};
 use mir_ir::{Callee, Ty};

@@ -10,11 +10,11 @@ use Rattle.mir_ir.specs.declared.tree.Operand.TheVariants as operand
 use Rattle.mir_ir.specs.declared.tree.Rvalue.{Rvalue}
 use Rattle.mir_ir.specs.declared.tree.Rvalue.TheVariants as rvalue
 use Rattle.mir_ir.specs.declared.tree.Function.{Function}
-use Rattle.scalar_form.specs.declared.kinds.ValueKind.{ValueKind}
-use Rattle.scalar_form.specs.declared.kinds.ValueKind.TheVariants as kind
-use Rattle.scalar_form.specs.Kinds.{kind_of, is_signed_kind}
-use Rattle.scalar_form.specs.Look.{local_kind}
-use Rattle.scalar_form.specs.Operators.{truth, binary_value, not_value, neg_value, cast_value}
+use Rattle.scalar_runs.specs.declared.kinds.ValueKind.{ValueKind}
+use Rattle.scalar_runs.specs.declared.kinds.ValueKind.TheVariants as kind
+use Rattle.scalar_runs.specs.Kinds.{kind_of, is_signed_kind}
+use Rattle.scalar_runs.specs.Look.{local_kind}
+use Rattle.scalar_runs.specs.Operators.{truth, binary_value, not_value, neg_value, cast_value}
 
 -- what each local holds, by its number
 abbrev pub Values : Type 0

@@ -6,9 +6,9 @@ use Rattle.mir_ir.specs.declared.types.IntTy.TheVariants as int
 use Rattle.mir_ir.specs.declared.types.Ty.{Ty, out-Ty}
 use Rattle.mir_ir.specs.declared.types.Ty.TheOpen.{Ty-F}
 use Rattle.mir_ir.specs.Integers.{width_of, is_signed}
-use Rattle.scalar_form.specs.declared.kinds.Choice.{Choice}
-use Rattle.scalar_form.specs.declared.kinds.ValueKind.{ValueKind}
-use Rattle.scalar_form.specs.declared.kinds.ValueKind.TheVariants as kind
+use Rattle.scalar_runs.specs.declared.kinds.Choice.{Choice}
+use Rattle.scalar_runs.specs.declared.kinds.ValueKind.{ValueKind}
+use Rattle.scalar_runs.specs.declared.kinds.ValueKind.TheVariants as kind
 
 -- the kind of a type, by its outermost form; a tuple of no items is ()
 abbrev pub kind_of_form : Ty-F Ty → Option ValueKind

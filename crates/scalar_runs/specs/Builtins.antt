@@ -4,9 +4,9 @@ use Rattle.std.specs.List.{starts_with}
 use Rattle.std.specs.Str.{bytes_eq}
 use Rattle.mir_ir.specs.declared.types.Ty.{Ty}
 use Rattle.mir_ir.specs.declared.tree.Callee.{Callee}
-use Rattle.scalar_form.specs.declared.builtins.Builtin.{Builtin}
-use Rattle.scalar_form.specs.declared.builtins.Builtin.TheVariants as builtin
-use Rattle.scalar_form.specs.Kinds.{kind_of}
+use Rattle.scalar_runs.specs.declared.builtins.Builtin.{Builtin}
+use Rattle.scalar_runs.specs.declared.builtins.Builtin.TheVariants as builtin
+use Rattle.scalar_runs.specs.Kinds.{kind_of}
 
 -- `kani::any<T>`
 abbrev pub is_any : Callee → Bool

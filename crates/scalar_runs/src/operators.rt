@@ -1,5 +1,5 @@
 ghost use Rattle.std.specs.Prelude.{◌≡◌, true, Result};
-ghost use Rattle.scalar_form.specs.Operators.{are_operands, binary_value, cast_value, is_shift, lawful, neg_value, not_value, operated, operator_value, recast_value, truth};
+ghost use Rattle.scalar_runs.specs.Operators.{are_operands, binary_value, cast_value, is_shift, lawful, neg_value, not_value, operated, operator_value, recast_value, truth};
 ghost use Rattle.word_bits.specs.Words.{quotient, remainder};
 
 use crate::kinds::{ValueKind, is_word};
