@@ -1,5 +1,5 @@
 -- The faults of a step are among the checks of its statement or terminator, and these among those of the function.
-use Rattle.std.proofs.Common.{◌≡◌, ◌⊎◌, inl, inr, ℕ, zero, suc, ◌+◌, ◌<◌, ◌==◌, ◌||◌, Bool, true, false, cond, List, [], ◌∷◌, ◌++◌, length, Option, Some, None, Result, Ok, Err, find, subst, sym, ap, ◌∙◌, refl, arith}
+use Rattle.std.proofs.Common.{◌≡◌, ◌⊎◌, inl, inr, ℕ, zero, suc, ◌+◌, ◌<◌, ◌==◌, Bool, true, false, cond, List, [], ◌∷◌, ◌++◌, length, Option, Some, None, Result, Ok, Err, find, subst, sym, ap, ◌∙◌, refl, arith}
 use Rattle.std.specs.Prelude.{slice_get}
 use Rattle.std.proofs.lemmas.Bool.{eqb-true}
 use Rattle.std.proofs.lemmas.Option.{none-some, same_Some}
@@ -23,14 +23,14 @@ use Rattle.scalar_runs.specs.declared.builtins.Builtin.TheVariants as builtin
 use Rattle.scalar_runs.specs.declared.breach.Breach.{Breach}
 use Rattle.scalar_checks.specs.declared.checks.Check.{Check}
 use Rattle.scalar_runs.specs.Builtins.{builtin_of}
-use Rattle.scalar_checks.specs.Checks.{assign_checks, block_checks, call_checks, checks_behind, checks_below, checks_in, checks_of, found_checks, memory_checks, names_place, place_checks, return_checks, some_names_place, statement_checks, terminator_checks, text_checks, unwind_checks}
+use Rattle.scalar_checks.specs.Checks.{assign_checks, block_checks, call_checks, checks_behind, checks_below, checks_in, checks_of, found_checks, memory_checks, names_place, place_checks, statement_checks, terminator_checks, text_checks}
 use Rattle.scalar_form.specs.Form.{is_scalar}
-use Rattle.scalar_runs.specs.Look.{block_of, blocks_end, local_kind}
+use Rattle.scalar_runs.specs.Look.{block_of, blocks_end}
 use Rattle.scalar_runs.specs.Run.{Configuration, Stepped, Goes, Ends, Cuts, Faults, Chooses, Stuck, assigned, block_step, breach_at, builtin_step, call_step, condition_step, entry_of, is_expected, statement_step, step, step_at, switched, terminator_step, tested}
 use Rattle.scalar_form.specs.Typing.{is_switch, is_terminator, is_truth, operand_kind, switch_width}
 use Rattle.scalar_runs.specs.Values.{operand_value, rvalue_value, word_of_constant}
 use Rattle.scalar_form.proofs.FormLaws.{IsBlock, found_number, scalar_block}
-use Rattle.scalar_runs.proofs.OperandLaws.{and_left, and_right}
+use Rattle.scalar_runs.proofs.OperandLaws.{and_left}
 use Rattle.scalar_checks.specs.Complete.{HasCheck}
 use Rattle.scalar_checks.proofs.Operands.{ErrListed, HasMemory, here, memory_alone, operand_listed, rvalue_listed}
 

@@ -1,5 +1,5 @@
 -- The faults of reading operands and of operators are among the checks of their statement.
-use Rattle.std.proofs.Common.{◌≡◌, ◌⊎◌, inl, inr, ℕ, Bool, true, false, cond, List, [], ◌∷◌, ◌++◌, Option, Some, None, Result, Ok, Err, refl}
+use Rattle.std.proofs.Common.{inl, inr, Bool, true, false, cond, List, ◌∷◌, ◌++◌, Option, Some, None, Result, Ok, Err, refl}
 use Rattle.std.specs.Prelude.{slice_index_or}
 use Rattle.word_bits.specs.declared.word.Word.{Word}
 use Rattle.word_bits.specs.Words.{complement, is_lawful, negated, recast}
@@ -25,7 +25,7 @@ use Rattle.scalar_runs.specs.Kinds.{is_word, kind_of, width_of_kind}
 use Rattle.scalar_runs.specs.Look.{local_kind}
 use Rattle.scalar_runs.specs.Operators.{are_operands, binary_value, cast_value, lawful, operated, operator_value, recast_value, unary_value}
 use Rattle.scalar_runs.specs.Run.{Configuration, breach_at}
-use Rattle.scalar_runs.specs.Values.{Values, held_value, is_signed_operand, operand_value, read_as, rvalue_value, word_of_constant}
+use Rattle.scalar_runs.specs.Values.{held_value, is_signed_operand, operand_value, read_as, rvalue_value, word_of_constant}
 use Rattle.scalar_checks.specs.Complete.{HasCheck}
 
 -- the block where a run stands

@@ -19,7 +19,7 @@ use Rattle.scalar_runs.specs.declared.kinds.ValueKind.TheVariants as kind
 use Rattle.scalar_form.specs.Form.{is_scalar}
 use Rattle.scalar_runs.specs.Kinds.{is_choice_of, is_scalar_value, is_value, is_word, same_int, same_kind, width_of_kind}
 use Rattle.scalar_runs.specs.Look.{block_of}
-use Rattle.scalar_runs.specs.Run.{Configuration, Stepped, Goes, Ends, Cuts, Faults, Chooses, Stuck, Outcome, Running, Faulted, Wanting, Lost, after, after_choice, assigned, block_step, breach_at, chosen, run, start, statement_step, step, step_at, terminator_step}
+use Rattle.scalar_runs.specs.Run.{Configuration, Stepped, Goes, Ends, Cuts, Faults, Chooses, Stuck, Outcome, Running, Faulted, Wanting, Lost, after, assigned, block_step, breach_at, chosen, run, start, statement_step, step, step_at, terminator_step}
 use Rattle.scalar_runs.specs.Run as outcome
 use Rattle.scalar_form.specs.Size.{size_of}
 use Rattle.scalar_runs.specs.Values.{rvalue_value}

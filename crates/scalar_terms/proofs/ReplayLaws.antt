@@ -14,7 +14,7 @@ use Rattle.scalar_runs.specs.declared.kinds.ValueKind.{ValueKind}
 use Rattle.scalar_form.specs.Form.{is_scalar}
 use Rattle.scalar_runs.specs.Kinds.{is_value}
 use Rattle.scalar_runs.specs.Look.{block_of, blocks_end}
-use Rattle.scalar_runs.specs.Run.{Configuration, Stepped, Goes, Ends, Cuts, Faults, Chooses, Stuck, Faulted, Running, after, assigned, block_step, breach_at, chosen, run, start, statement_step, step, step_at, terminator_step}
+use Rattle.scalar_runs.specs.Run.{Configuration, Stepped, Goes, Ends, Cuts, Faults, Chooses, Stuck, after, assigned, block_step, breach_at, chosen, run, start, step, step_at, terminator_step}
 use Rattle.scalar_runs.specs.Run as outcome
 use Rattle.scalar_form.specs.Size.{size_of}
 use Rattle.scalar_runs.specs.Values.{rvalue_value}

@@ -12,7 +12,6 @@ use Rattle.scalar_terms.specs.declared.replays.FaultRun.{FaultRun}
 use Rattle.scalar_terms.specs.Faults.{AreFaults, FaultsWith}
 use Rattle.scalar_terms.specs.Replays.{IsFaultRun, Reaches}
 use Rattle.scalar_terms.specs.Ways.{AreFailures, Tells}
-use Rattle.term_queries.specs.Queries.{IsModel}
 use Rattle.term_queries.specs.Queries as query
 use Rattle.scalar_verdicts.specs.Choices.{choices_of}
 use Rattle.scalar_verdicts.specs.Failures.{AreOthers, AreOwn, any_holds}

@@ -1,9 +1,8 @@
 -- Where the verdict of a function's statuses is SUCCESSFUL, none of its runs is a fault.
-use Rattle.std.proofs.Common.{◌≡◌, ◌⊎◌, inl, inr, ℕ, Bool, true, false, ◌||◌, cond, List, [], ◌∷◌, map, subst, sym, refl}
+use Rattle.std.proofs.Common.{◌≡◌, inl, inr, ℕ, Bool, true, false, ◌||◌, cond, List, [], ◌∷◌, map, subst, sym, refl}
 use Rattle.std.specs.List.{list_any}
 use Rattle.mir_ir.specs.declared.tree.Function.{Function}
 use Rattle.scalar_runs.specs.declared.breach.Breach.{Breach}
-use Rattle.scalar_checks.specs.declared.checks.Check.{Check}
 use Rattle.scalar_checks.specs.Checks.{checks_of}
 use Rattle.scalar_form.specs.Form.{is_scalar}
 use Rattle.scalar_runs.specs.Run.{start}

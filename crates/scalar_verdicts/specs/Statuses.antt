@@ -1,5 +1,5 @@
 -- What may be told of the checks of a function of the scalar form.
-use Rattle.std.specs.Prelude.{◌≡◌, ◌⊎◌, ◌<◌, ◌≤◌, ◌+◌, ◌*◌, ◌-◌, ◌^◌, ◌&&◌, ℕ, Bool, true, false, List, [], ◌∷◌, length, map, min}
+use Rattle.std.specs.Prelude.{◌≡◌, ◌<◌, ◌≤◌, ◌+◌, ◌*◌, ◌-◌, ◌^◌, ℕ, Bool, List, [], ◌∷◌, length, map, min}
 use Rattle.mir_ir.specs.declared.tree.Function.{Function}
 use Rattle.region_pool.specs.Clauses.{ClauseList}
 use Rattle.region_pool.specs.Literals.{Satisfies}
@@ -7,7 +7,6 @@ use Rattle.region_pool.specs.Log.{Line}
 use Rattle.region_pool.specs.Refutation.{IsSpent}
 use Rattle.bit_gates.specs.declared.gates.InputBit.{InputBit}
 use Rattle.scalar_runs.specs.declared.breach.Breach.{Breach}
-use Rattle.scalar_checks.specs.declared.checks.Check.{Check}
 use Rattle.scalar_runs.specs.declared.kinds.Choice.{Choice}
 use Rattle.scalar_checks.specs.Checks.{checks_of}
 use Rattle.scalar_runs.specs.Run.{Faulted, run, start}
