@@ -1,4 +1,4 @@
-//! Tests of the crates on trees of functions: names, typing, programs, the scalar form and its terms.
+//! Tests of the crates on trees of functions: names, typing, programs, the scalar form, its terms and its verdicts.
 #![tactic(auto)]
 
 #[cfg(test)]
@@ -9,6 +9,8 @@ mod of_mir_program;
 mod of_scalar_form;
 #[cfg(test)]
 mod of_scalar_terms;
+#[cfg(test)]
+mod of_scalar_verdicts;
 #[cfg(test)]
 mod of_type_rules;
 #[cfg(test)]

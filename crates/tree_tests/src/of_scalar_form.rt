@@ -8,7 +8,7 @@ use std::test::Fail;
 use vk_core::{BlockId, LocalId, Name, NoMemory, TextPlace};
 
 /// `fn check() -> () { bb0: { return; } }`
-fn returning(alloc: Global) -> Result<Function, NoMemory> {
+pub fn returning(alloc: Global) -> Result<Function, NoMemory> {
     let mut locals = Items::new(alloc);
     locals.push(Local {
         id: LocalId(0),

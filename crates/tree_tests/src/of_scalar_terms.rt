@@ -103,7 +103,7 @@ fn locals(alloc: Global) -> Result<Items<Local>, NoMemory> {
 }
 
 /// A function of these blocks.
-fn quotient(alloc: Global, additions: u32) -> Result<Function, NoMemory> {
+pub fn quotient(alloc: Global, additions: u32) -> Result<Function, NoMemory> {
     let name = Name::from_bytes(alloc, b"check")?;
     let locals = locals(alloc)?;
     let blocks = blocks(alloc, additions)?;
