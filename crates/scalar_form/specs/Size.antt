@@ -33,6 +33,11 @@ abbrev pub marked_block : List Bool → ℕ → Option Block → List Bool
 marked_block marks n None = marks
 marked_block marks n (Some b) = if get_or marks n false then marked_by marks b.terminator else marks
 
+-- a block, where it is reached
+abbrev pub reached_block : Bool → Option Block → Option Block
+reached_block true b = b
+reached_block false b = None
+
 -- bb0 alone, among the blocks that there can be
 unfoldable pub first_reached : List Bool
 first_reached = slice_set (replicate 4096 false) 0 true

@@ -7,4 +7,4 @@ mod size;
 mod typing;
 
 pub use form::is_scalar;
-pub use reached::{first_reached, mark_targets};
+pub use reached::{first_reached, reach};

@@ -1,7 +1,10 @@
-ghost use Rattle.std.specs.Prelude.{◌≡◌};
-ghost use Rattle.scalar_form.specs.Size.{first_reached, marked, marked_arms, marked_by, marked_next};
+ghost use Rattle.std.specs.Prelude.{◌≡◌, ◌<◌, ◌^◌, false, get_or};
+ghost use Rattle.std.specs.Option.{option_copied};
+ghost use Rattle.scalar_runs.specs.Look.{block_of};
+ghost use Rattle.scalar_form.specs.Size.{first_reached, marked, marked_arms, marked_block, marked_by, marked_next, reached_block};
 
-use mir_ir::{Arm, Terminator};
+use mir_ir::{Arm, Block, Function, Terminator};
+use scalar_runs::block_of;
 use vk_core::BlockId;
 
 /// The blocks that a function can have: a number of a block is at most 4095.
@@ -36,7 +39,7 @@ fn mark_next(marks: &mut [bool], next: Option<BlockId>)
 }
 
 /// Marks the blocks that the terminator goes to.
-pub fn mark_targets(marks: &mut [bool], last: &Terminator)
+fn mark_targets(marks: &mut [bool], last: &Terminator)
     ensures { marks.new ≡ marked_by marks.old last.now }
 {
     match last {
@@ -64,4 +67,22 @@ pub fn first_reached() -> [bool; BLOCKS]
     let mut marks = [false; BLOCKS];
     marks[0] = true;
     marks
+}
+
+/// The block with this number, where it is marked as reached; then the blocks that it goes to are marked too.
+pub fn reach<'a>(function: &'a Function, marks: &mut [bool], number: usize) -> Option<&'a Block>
+    requires { number < 2 ^ 32 }
+    ensures block { option_copied result ≡ reached_block (get_or marks.old number false) (block_of function.now number) }
+    ensures marks { marks.new ≡ marked_block marks.old number (block_of function.now number) }
+{
+    let is_reached = match marks.get(number) {
+        Some(mark) => *mark,
+        None => false,
+    };
+    if !is_reached {
+        return None;
+    }
+    let block = block_of(function, BlockId(number as u32))?;
+    mark_targets(marks, &block.terminator);
+    Some(block)
 }

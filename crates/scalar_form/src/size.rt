@@ -2,32 +2,20 @@ ghost use Rattle.std.specs.Prelude.{◌≡◌, ◌<◌, ◌≤◌, ◌^◌, fals
 ghost use Rattle.scalar_runs.specs.Look.{block_of};
 ghost use Rattle.scalar_form.specs.Size.{marked_block, size_of, size_of_block};
 
-use crate::reached::{first_reached, mark_targets};
+use crate::reached::{first_reached, reach};
 use mir_ir::Function;
-use scalar_runs::{block_of, blocks_end};
-use vk_core::BlockId;
+use scalar_runs::blocks_end;
 
-/// What the block with this number adds to the size, and marks the blocks that it goes to, where it is reached.
+/// What the block with this number adds to the size, where it is reached.
 fn visit(function: &Function, marks: &mut [bool], number: usize) -> u128
     requires { number < 2 ^ 32 }
     ensures few { result ≤ 2 ^ 64 }
     ensures size { result ≡ size_of_block (get_or marks.old number false) (block_of function.now number) }
     ensures marks { marks.new ≡ marked_block marks.old number (block_of function.now number) }
 {
-    let is_reached = match marks.get(number) {
-        Some(mark) => *mark,
-        None => false,
-    };
-    match block_of(function, BlockId(number as u32)) {
+    match reach(function, marks, number) {
+        Some(block) => block.statements.len() as u128 + 1,
         None => 0,
-        Some(block) => {
-            if is_reached {
-                mark_targets(marks, &block.terminator);
-                block.statements.len() as u128 + 1
-            } else {
-                0
-            }
-        }
     }
 }
 

@@ -1,13 +1,14 @@
-ghost use Rattle.std.specs.Prelude.{◌≡◌, ◌+◌, ◌<◌, ◌^◌, Some, true};
+ghost use Rattle.std.specs.Prelude.{◌≡◌, ◌+◌, ◌<◌, ◌^◌, IfOk, Some, true};
 ghost use Rattle.scalar_runs.specs.Engine.{Does, configuration};
-ghost use Rattle.scalar_runs.specs.Run.{Cuts, Faults, Goes, Stepped, assigned, block_step, builtin_step, call_step, entry_of, is_expected, step, stored, switched, target_of, terminator_step, tested};
+ghost use Rattle.scalar_runs.specs.Run.{Cuts, Faults, Goes, Stepped, assigned, block_step, builtin_step, call_step, entry_of, is_expected, start, step, stored, switched, target_of, terminator_step, tested};
 
 use crate::builtins::{Builtin, builtin_of};
 use crate::kinds::ValueKind;
-use crate::look::block_of;
+use crate::look::{block_of, locals_end};
 use crate::values::{operand_value, rvalue_value};
 use mir_ir::{Arm, Block, Function, Operand, Statement, Terminator};
-use vk_core::{BlockId, CheckClass, LocalId};
+use std::alloc::Global;
+use vk_core::{BlockId, CheckClass, LocalId, NoMemory};
 use word_bits::Word;
 
 /// Where a run stands, and what each local holds, by its number: a word, or nothing.
@@ -34,6 +35,19 @@ pub enum Step {
     },
     /// A function of the form never comes here.
     Stuck,
+}
+
+/// Where runs begin: at the first statement of the first block, with nothing in any local.
+#[tactic(auto, unfolding(crate::specs::Run::start))]
+pub fn begin(alloc: Global, function: &Function) -> Result<State, NoMemory>
+    ensures { IfOk result (λ state. configuration state ≡ start function.now) }
+{
+    let values = vec![in alloc; None; locals_end(function.locals.as_slice())]?;
+    Ok(State {
+        block: BlockId(0),
+        index: 0,
+        values,
+    })
 }
 
 /// Makes the next step of a run.

@@ -1,14 +1,13 @@
-ghost use Rattle.std.specs.Prelude.{◌≡◌, ◌≤◌, ◌<◌, ◌^◌, ℕ, IfOk, None, get_or, replicate, true};
+ghost use Rattle.std.specs.Prelude.{◌≡◌, ◌≤◌, ◌<◌, ◌^◌, ℕ, IfOk, get_or, true};
 ghost use Rattle.word_bits.specs.Words.{word};
 ghost use Rattle.scalar_runs.specs.Engine.{configuration};
 ghost use Rattle.scalar_form.specs.Form.{is_scalar};
-ghost use Rattle.scalar_runs.specs.Look.{locals_end};
 ghost use Rattle.scalar_runs.specs.Kinds.{width_of_kind};
-ghost use Rattle.scalar_runs.specs.Run.{breach_at, start};
+ghost use Rattle.scalar_runs.specs.Run.{breach_at};
 ghost use Rattle.scalar_terms.specs.Replays.{IsMadeChoice, IsReplay};
 
 use mir_ir::Function;
-use scalar_runs::{Breach, Choice, State, Step, ValueKind, locals_end, store, take_step};
+use scalar_runs::{Breach, Choice, State, Step, ValueKind, begin, store, take_step};
 use std::alloc::Global;
 use vk_core::{BlockId, CheckClass, LocalId, NoMemory};
 use word_bits::Word;
@@ -19,19 +18,6 @@ pub struct FaultRun {
     pub breach: Breach,
     pub choices: Vec<Choice>,
     pub steps: u64,
-}
-
-/// Where runs begin.
-#[tactic(auto, unfolding(scalar_runs::specs::Run::start))]
-fn begin(alloc: Global, function: &Function) -> Result<State, NoMemory>
-    ensures { IfOk result (λ state. configuration state ≡ start function.now) }
-{
-    let values = vec![in alloc; None; locals_end(function.locals.as_slice())]?;
-    Ok(State {
-        block: BlockId(0),
-        index: 0,
-        values,
-    })
 }
 
 /// The input with the block's number, 0 where there is none.

@@ -4,9 +4,8 @@ ghost use Rattle.scalar_form.specs.Size.{marked_block};
 ghost use Rattle.scalar_verdicts.specs.Choices.{block_choices, called_choices, choices_of, terminator_choices, values_of};
 
 use mir_ir::{Function, Terminator};
-use scalar_form::{first_reached, mark_targets};
-use scalar_runs::{Builtin, ValueKind, block_of, blocks_end, builtin_of};
-use vk_core::BlockId;
+use scalar_form::{first_reached, reach};
+use scalar_runs::{Builtin, ValueKind, blocks_end, builtin_of};
 
 /// No budget that can be spent is so large.
 pub const MANY: u64 = 1 << 60;
@@ -65,20 +64,9 @@ fn visit(function: &Function, marks: &mut [bool], number: usize) -> u64
     ensures ways { result ≡ min (block_choices (get_or marks.old number false) (block_of function.now number)) (2 ^ 60) }
     ensures marks { marks.new ≡ marked_block marks.old number (block_of function.now number) }
 {
-    let is_reached = match marks.get(number) {
-        Some(mark) => *mark,
-        None => false,
-    };
-    match block_of(function, BlockId(number as u32)) {
+    match reach(function, marks, number) {
+        Some(block) => terminator_choices(&block.terminator),
         None => 1,
-        Some(block) => {
-            if is_reached {
-                mark_targets(marks, &block.terminator);
-                terminator_choices(&block.terminator)
-            } else {
-                1
-            }
-        }
     }
 }
 

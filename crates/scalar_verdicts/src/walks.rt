@@ -1,4 +1,4 @@
-ghost use Rattle.std.specs.Prelude.{◌≡◌, ◌<◌, ◌≤◌, ◌^◌, ℕ, IfOk, OnOk, None, get_or, replicate, true, vec_len};
+ghost use Rattle.std.specs.Prelude.{◌≡◌, ◌<◌, ◌≤◌, ◌^◌, ℕ, IfOk, OnOk, true, vec_len};
 ghost use Rattle.scalar_runs.specs.Engine.{configuration};
 ghost use Rattle.scalar_form.specs.Form.{is_scalar};
 ghost use Rattle.scalar_runs.specs.Kinds.{is_value};
@@ -6,7 +6,7 @@ ghost use Rattle.scalar_runs.specs.Run.{Chooses, start, step};
 ghost use Rattle.scalar_verdicts.specs.Walks.{HasGone, IsBranch, IsPut, IsStop, IsWalk};
 
 use mir_ir::Function;
-use scalar_runs::{State, Step, ValueKind, locals_end, store, take_step};
+use scalar_runs::{State, Step, ValueKind, begin, store, take_step};
 use std::alloc::Global;
 use vk_core::{BlockId, LocalId, NoMemory};
 use word_bits::Word;
@@ -17,19 +17,6 @@ pub struct Walk {
     pub state: State,
     pub numbers: Vec<u128>,
     pub steps: u64,
-}
-
-/// Where runs begin.
-#[tactic(auto, unfolding(scalar_runs::specs::Run::start))]
-fn begin(alloc: Global, function: &Function) -> Result<State, NoMemory>
-    ensures { IfOk result (λ state. configuration state ≡ start function.now) }
-{
-    let values = vec![in alloc; None; locals_end(function.locals.as_slice())]?;
-    Ok(State {
-        block: BlockId(0),
-        index: 0,
-        values,
-    })
 }
 
 /// A run before its first step.
