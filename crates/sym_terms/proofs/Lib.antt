@@ -10,3 +10,6 @@ pub mod CastLaws
 pub mod TermLaws
 pub mod CommonParts
 pub mod AgainLaws
+pub mod Congruences
+pub mod SumLaws
+pub mod CollectLaws

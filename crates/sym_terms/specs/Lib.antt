@@ -1,7 +1,9 @@
+pub mod Alike
 pub mod Evaluated
 pub mod Folds
 pub mod Inside
 pub mod Laws
 pub mod Ops
 pub mod Simpler
+pub mod Sums
 pub mod Terms

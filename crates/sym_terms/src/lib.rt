@@ -2,12 +2,14 @@
 #![tactic(auto)]
 
 mod again;
+mod alike;
 mod choices;
 mod fold;
 mod laws;
 mod parts;
 mod rewrite;
 mod simpler;
+mod sums;
 mod term;
 mod terms;
 

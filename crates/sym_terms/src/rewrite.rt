@@ -38,7 +38,7 @@ impl Terms {
     }
 
     /// The word of a term that is a constant.
-    fn constant(&self, id: TermId) -> Option<Word>
+    pub(crate) fn constant(&self, id: TermId) -> Option<Word>
         requires { id.0 < length self.now }
         ensures found { IfSome result (λ c. slice_get self.now id.0 ≡ Some (Term.Constant c)) }
         ensures fitting { AreFitting self.now }
@@ -55,6 +55,9 @@ impl Terms {
         requires { Fits self.now (Term.Apply op a b) }
         ensures { IsSimpler self.now (Term.Apply op a b) result }
     {
+        if let Some(form) = self.simpler_equation(op, a, b) {
+            return form;
+        }
         if op.is_commutative() && self.goes_second(a, b) {
             self.simpler_in_order(op, b, a)
         } else {
