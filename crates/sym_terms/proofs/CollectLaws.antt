@@ -1,9 +1,8 @@
 -- What operations add to a sum of products.
 use Rattle.std.proofs.Common.{◌≡◌, ℕ, ◌+◌, ◌-◌, ◌*◌, ◌%◌, ◌^◌, ◌<◌, ◌≤◌, List, length, ap, sym, ◌∙◌, refl, subst, arith, true, false}
-use Rattle.std.specs.Prelude.{slice_get, Some, ◌==◌}
-use Rattle.std.proofs.lemmas.Bool.{eq-eqb}
+use Rattle.std.specs.Prelude.{slice_get, Some}
 use Rattle.word_bits.specs.declared.word.Word.{Word}
-use Rattle.word_bits.specs.Words.{IsWidth, negated}
+use Rattle.word_bits.specs.Words.{IsWidth}
 use Rattle.std.proofs.lemmas.Nat.{one_shl}
 use Rattle.std.proofs.Math.Nat.{mod-lt}
 use Rattle.word_bits.proofs.Cuts.{word_of-difference}
@@ -11,19 +10,16 @@ use Rattle.sym_terms.specs.declared.term.Term.{Term}
 use Rattle.sym_terms.specs.declared.term.Term.TheVariants.{Constant, Apply}
 use Rattle.sym_terms.specs.declared.term.TermId.{TermId}
 use Rattle.sym_terms.specs.declared.term.TermOp.{TermOp}
-use Rattle.sym_terms.specs.declared.term.TermOp.TheVariants.{Equal, Add, Sub, Mul, Neg, Shl}
+use Rattle.sym_terms.specs.declared.term.TermOp.TheVariants.{Add, Sub, Mul, Neg, Shl}
 use Rattle.sym_terms.specs.declared.sums.Product.{Product}
 use Rattle.sym_terms.specs.declared.sums.Summand.{Summand}
-use Rattle.sym_terms.specs.declared.simpler.Simpler.TheVariants.{Other}
-use Rattle.sym_terms.specs.Terms.{truth, value, width_of, AreFitting, Fits}
+use Rattle.sym_terms.specs.Terms.{value, width_of, AreFitting}
 use Rattle.sym_terms.specs.Ops.{is_binary, is_shift}
-use Rattle.sym_terms.specs.Simpler.{IsSimpler}
 use Rattle.sym_terms.specs.Sums.{product_value, sum_value, AreCongruent, Adds, IsNothing}
 use Rattle.sym_terms.specs.Alike.{number_at, Collects, IsShiftFactor, AreAlike}
 use Rattle.sym_terms.proofs.TermLaws.{at_value, at_width}
 use Rattle.sym_terms.proofs.ValueWords.{value_word, IsWidth-width_of}
 use Rattle.sym_terms.proofs.CommonParts.{negated_is, same_words}
-use Rattle.sym_terms.proofs.WordLaws.{IsWord-bit}
 use Rattle.sym_terms.proofs.AgainLaws.{parts_of}
 use Rattle.sym_terms.proofs.Congruences.{congruent_same, congruent_through, congruent-cut, congruent-sum_first, congruent-sum_second, congruent-product, congruent-product_first, congruent_narrower, sum_cut, difference_cut, opposite_cut, product_cut, shift_cut, same_of_nothing}
 
@@ -62,8 +58,8 @@ module _ (terms : List Term) (are : AreFitting terms) (old new : List Summand) (
       let few = few_bits id.0 inside in
       let cut : AreCongruent (width_of terms id.0) ((c * word.value) % 2 ^ 128 * 1) (c * word.value * 1) = congruent-product (congruent_narrower (width_of terms id.0) few (congruent-cut 128 (c * word.value))) (congruent_same _ 1 1 refl) in
       Collects-as (λ inputs. c * number_at terms inputs id.0) (Collects-Adds terms (width_of terms id.0) few adds) (λ inputs.
-        let form : c * word.value * 1 ≡ c * word.value = omega arith in
-        congruent_through cut (congruent_same _ _ _ (form ∙ ap (λ (w : Word). c * w.value) (sym (at_value terms are id.0 (Constant word) at inputs)))))
+      let form : c * word.value * 1 ≡ c * word.value = omega arith in
+      congruent_through cut (congruent_same _ _ _ (form ∙ ap (λ (w : Word). c * w.value) (sym (at_value terms are id.0 (Constant word) at inputs)))))
 
   -- a sum, a difference and a product
   pub Collects-add : (id a b : TermId) → id.0 < length terms → slice_get terms id.0 ≡ Some (Apply Add a b)
@@ -73,11 +69,11 @@ module _ (terms : List Term) (are : AreFitting terms) (old new : List Summand) (
       let has = parts_of terms are Add a b id.0 inside refl refl at in
       subst (λ (w : ℕ). Collects terms w old new (λ inputs. c * number_at terms inputs id.0)) (sym has.width_is)
       (Collects-as (λ inputs. c * number_at terms inputs id.0) collects (λ inputs.
-        let x = value terms inputs a.0 in
-        let y = value terms inputs b.0 in
-        let number : (x.value + y.value) % 2 ^ width_of terms a.0 ≡ number_at terms inputs id.0 =
-        ap (λ k. (x.value + y.value) % 2 ^ k) (sym (value_word terms are inputs a.0 has.first).width_is) ∙ ap (λ (w : Word). w.value) (sym (has.value_is inputs)) in
-        congruent_through (sum_cut (width_of terms a.0) c x.value y.value) (congruent_same _ _ _ (ap (λ k. c * k) number))))
+      let x = value terms inputs a.0 in
+      let y = value terms inputs b.0 in
+      let number : (x.value + y.value) % 2 ^ width_of terms a.0 ≡ number_at terms inputs id.0 =
+      ap (λ k. (x.value + y.value) % 2 ^ k) (sym (value_word terms are inputs a.0 has.first).width_is) ∙ ap (λ (w : Word). w.value) (sym (has.value_is inputs)) in
+      congruent_through (sum_cut (width_of terms a.0) c x.value y.value) (congruent_same _ _ _ (ap (λ k. c * k) number))))
 
   pub Collects-mul : (id a b : TermId) → id.0 < length terms → slice_get terms id.0 ≡ Some (Apply Mul a b)
       → Collects terms (width_of terms a.0) old new (λ inputs. c * (number_at terms inputs a.0 * number_at terms inputs b.0))
@@ -86,11 +82,11 @@ module _ (terms : List Term) (are : AreFitting terms) (old new : List Summand) (
       let has = parts_of terms are Mul a b id.0 inside refl refl at in
       subst (λ (w : ℕ). Collects terms w old new (λ inputs. c * number_at terms inputs id.0)) (sym has.width_is)
       (Collects-as (λ inputs. c * number_at terms inputs id.0) collects (λ inputs.
-        let x = value terms inputs a.0 in
-        let y = value terms inputs b.0 in
-        let number : (x.value * y.value) % 2 ^ width_of terms a.0 ≡ number_at terms inputs id.0 =
-        ap (λ k. (x.value * y.value) % 2 ^ k) (sym (value_word terms are inputs a.0 has.first).width_is) ∙ ap (λ (w : Word). w.value) (sym (has.value_is inputs)) in
-        congruent_through (product_cut (width_of terms a.0) c x.value y.value) (congruent_same _ _ _ (ap (λ k. c * k) number))))
+      let x = value terms inputs a.0 in
+      let y = value terms inputs b.0 in
+      let number : (x.value * y.value) % 2 ^ width_of terms a.0 ≡ number_at terms inputs id.0 =
+      ap (λ k. (x.value * y.value) % 2 ^ k) (sym (value_word terms are inputs a.0 has.first).width_is) ∙ ap (λ (w : Word). w.value) (sym (has.value_is inputs)) in
+      congruent_through (product_cut (width_of terms a.0) c x.value y.value) (congruent_same _ _ _ (ap (λ k. c * k) number))))
 
   pub Collects-sub : (n : ℕ) → (n + c) % 2 ^ 128 ≡ 0 → (id a b : TermId) → id.0 < length terms → slice_get terms id.0 ≡ Some (Apply Sub a b)
       → Collects terms (width_of terms a.0) old new (λ inputs. c * number_at terms inputs a.0 + n * number_at terms inputs b.0)
@@ -100,15 +96,15 @@ module _ (terms : List Term) (are : AreFitting terms) (old new : List Summand) (
       let few = few_bits a.0 has.first in
       subst (λ (w : ℕ). Collects terms w old new (λ inputs. c * number_at terms inputs id.0)) (sym has.width_is)
       (Collects-as (λ inputs. c * number_at terms inputs id.0) collects (λ inputs.
-        let x = value terms inputs a.0 in
-        let y = value terms inputs b.0 in
-        let width_is : x.width ≡ width_of terms a.0 = (value_word terms are inputs a.0 has.first).width_is in
-        let less : y.value < 2 ^ x.width = has.second_below inputs in
-        let within : y.value ≤ 2 ^ x.width = omega arith in
-        let below : y.value ≤ 2 ^ width_of terms a.0 = subst (λ (k : ℕ). y.value ≤ 2 ^ k) width_is within in
-        let number : (x.value + (2 ^ width_of terms a.0 - y.value)) % 2 ^ width_of terms a.0 ≡ number_at terms inputs id.0 =
-        ap (λ k. (x.value + (2 ^ k - y.value)) % 2 ^ k) (sym width_is) ∙ ap (λ (w : Word). w.value) (sym (has.value_is inputs ∙ word_of-difference x.width x.value y.value within)) in
-        congruent_through (difference_cut (width_of terms a.0) n c x.value y.value few e below) (congruent_same _ _ _ (ap (λ k. c * k) number))))
+      let x = value terms inputs a.0 in
+      let y = value terms inputs b.0 in
+      let width_is : x.width ≡ width_of terms a.0 = (value_word terms are inputs a.0 has.first).width_is in
+      let less : y.value < 2 ^ x.width = has.second_below inputs in
+      let within : y.value ≤ 2 ^ x.width = omega arith in
+      let below : y.value ≤ 2 ^ width_of terms a.0 = subst (λ (k : ℕ). y.value ≤ 2 ^ k) width_is within in
+      let number : (x.value + (2 ^ width_of terms a.0 - y.value)) % 2 ^ width_of terms a.0 ≡ number_at terms inputs id.0 =
+      ap (λ k. (x.value + (2 ^ k - y.value)) % 2 ^ k) (sym width_is) ∙ ap (λ (w : Word). w.value) (sym (has.value_is inputs ∙ word_of-difference x.width x.value y.value within)) in
+      congruent_through (difference_cut (width_of terms a.0) n c x.value y.value few e below) (congruent_same _ _ _ (ap (λ k. c * k) number))))
 
   -- minus a term
   pub Collects-neg : (n : ℕ) → (n + c) % 2 ^ 128 ≡ 0 → (id a b : TermId) → id.0 < length terms → slice_get terms id.0 ≡ Some (Apply Neg a b)
@@ -119,14 +115,14 @@ module _ (terms : List Term) (are : AreFitting terms) (old new : List Summand) (
       let first : a.0 < length terms = omega (arith, inner.0) in
       subst (λ (w : ℕ). Collects terms w old new (λ inputs. c * number_at terms inputs id.0)) (sym (at_width terms are id.0 (Apply Neg a b) at))
       (Collects-as (λ inputs. c * number_at terms inputs id.0) collects (λ inputs.
-        let x = value terms inputs a.0 in
-        let word = value_word terms are inputs a.0 first in
-        let less : x.value < 2 ^ x.width = word.is_word.below in
-        let within : x.value ≤ 2 ^ x.width = omega arith in
-        let below : x.value ≤ 2 ^ width_of terms a.0 = subst (λ (k : ℕ). x.value ≤ 2 ^ k) word.width_is within in
-        let number : (0 + (2 ^ width_of terms a.0 - x.value)) % 2 ^ width_of terms a.0 ≡ number_at terms inputs id.0 =
-        ap (λ k. (0 + (2 ^ k - x.value)) % 2 ^ k) (sym word.width_is) ∙ ap (λ (w : Word). w.value) (sym (at_value terms are id.0 (Apply Neg a b) at inputs ∙ negated_is x word.is_word)) in
-        congruent_through (opposite_cut (width_of terms a.0) n c x.value (few_bits a.0 first) e below) (congruent_same _ _ _ (ap (λ k. c * k) number))))
+      let x = value terms inputs a.0 in
+      let word = value_word terms are inputs a.0 first in
+      let less : x.value < 2 ^ x.width = word.is_word.below in
+      let within : x.value ≤ 2 ^ x.width = omega arith in
+      let below : x.value ≤ 2 ^ width_of terms a.0 = subst (λ (k : ℕ). x.value ≤ 2 ^ k) word.width_is within in
+      let number : (0 + (2 ^ width_of terms a.0 - x.value)) % 2 ^ width_of terms a.0 ≡ number_at terms inputs id.0 =
+      ap (λ k. (0 + (2 ^ k - x.value)) % 2 ^ k) (sym word.width_is) ∙ ap (λ (w : Word). w.value) (sym (at_value terms are id.0 (Apply Neg a b) at inputs ∙ negated_is x word.is_word)) in
+      congruent_through (opposite_cut (width_of terms a.0) n c x.value (few_bits a.0 first) e below) (congruent_same _ _ _ (ap (λ k. c * k) number))))
 
   -- a shift by a constant
   pub Collects-shl : (factor : ℕ) (id a b : TermId) → id.0 < length terms → slice_get terms id.0 ≡ Some (Apply Shl a b) → IsShiftFactor terms b.0 (width_of terms a.0) factor
@@ -137,13 +133,13 @@ module _ (terms : List Term) (are : AreFitting terms) (old new : List Summand) (
       let first : a.0 < length terms = omega (arith, inner.0) in
       subst (λ (w : ℕ). Collects terms w old new (λ inputs. c * number_at terms inputs id.0)) (sym (at_width terms are id.0 (Apply Shl a b) at))
       (Collects-as (λ inputs. c * number_at terms inputs id.0) collects (λ inputs.
-        let x = value terms inputs a.0 in
-        let y = value terms inputs b.0 in
-        let number : (x.value * factor) % 2 ^ width_of terms a.0 ≡ number_at terms inputs id.0 =
-        ap (λ k. (x.value * k) % 2 ^ width_of terms a.0) (shift.factor_is inputs)
-        ∙ ap (λ k. (x.value * 2 ^ (y.value % k)) % 2 ^ k) (sym (value_word terms are inputs a.0 first).width_is)
-        ∙ ap (λ (w : Word). w.value) (sym (at_value terms are id.0 (Apply Shl a b) at inputs)) in
-        congruent_through (shift_cut (width_of terms a.0) c factor x.value (few_bits a.0 first)) (congruent_same _ _ _ (ap (λ k. c * k) number))))
+      let x = value terms inputs a.0 in
+      let y = value terms inputs b.0 in
+      let number : (x.value * factor) % 2 ^ width_of terms a.0 ≡ number_at terms inputs id.0 =
+      ap (λ k. (x.value * k) % 2 ^ width_of terms a.0) (shift.factor_is inputs)
+      ∙ ap (λ k. (x.value * 2 ^ (y.value % k)) % 2 ^ k) (sym (value_word terms are inputs a.0 first).width_is)
+      ∙ ap (λ (w : Word). w.value) (sym (at_value terms are id.0 (Apply Shl a b) at inputs)) in
+      congruent_through (shift_cut (width_of terms a.0) c factor x.value (few_bits a.0 first)) (congruent_same _ _ _ (ap (λ k. c * k) number))))
 
 -- two sums that were collected apart, multiplied
 pub Collects-multiplied : (terms : List Term) (width : ℕ) → width ≤ 128 → (old new first second none other : List Summand) (c : ℕ) (a b : TermId)
@@ -153,9 +149,9 @@ pub Collects-multiplied : (terms : List Term) (width : ℕ) → width ≤ 128 �
     → Collects terms width old new (λ inputs. c * (number_at terms inputs a.0 * number_at terms inputs b.0))
 Collects-multiplied terms width few old new first second none other c a b empty empty_too one two adds =
     Collects-as (λ inputs. c * (number_at terms inputs a.0 * number_at terms inputs b.0)) (Collects-Adds terms width few adds) (λ inputs.
-      congruent-product_first c (congruent-product
-      (congruent_through (one.sum_is inputs) (congruent_same width _ _ (alone (sum_value (number_at terms inputs) none) (number_at terms inputs a.0) (empty (number_at terms inputs)))))
-      (congruent_through (two.sum_is inputs) (congruent_same width _ _ (alone (sum_value (number_at terms inputs) other) (number_at terms inputs b.0) (empty_too (number_at terms inputs)))))))
+    congruent-product_first c (congruent-product
+    (congruent_through (one.sum_is inputs) (congruent_same width _ _ (alone (sum_value (number_at terms inputs) none) (number_at terms inputs a.0) (empty (number_at terms inputs)))))
+    (congruent_through (two.sum_is inputs) (congruent_same width _ _ (alone (sum_value (number_at terms inputs) other) (number_at terms inputs b.0) (empty_too (number_at terms inputs)))))))
   where
     alone : (s x : ℕ) → s ≡ 0 → s + 1 * x ≡ x
     alone s x e = omega arith
@@ -180,15 +176,6 @@ AreAlike-nothing terms are none first second n a b inside inside_too same_width 
       (same_of_nothing (width_of terms a.0) n _ _ _ _ (IsWidth-width_of terms are a.0 inside).few_bits e start later (is.sum_is (number_at terms inputs)) below below_too);
 }
 
--- an equation of two terms that are alike
-pub IsSimpler-alike : (terms : List Term) (a b : TermId) → AreAlike terms a.0 b.0 → IsSimpler terms (Apply Equal a b) (Other (Constant (record { width = 1; value = 1 })))
-IsSimpler-alike terms a b alike = record {
-  fits = record { fitting = IsWord-bit 1 (omega arith); input = tt };
-  value_is = λ inputs. ap truth (sym (eq-eqb (value terms inputs a.0).value (value terms inputs b.0).value (ap (λ (w : Word). w.value) (alike.value_is inputs))));
-  width_is = refl;
-  agrees = λ number width h. tt;
-}
-
 -- a change after another, at widths that are one
 pub Collects-both_at : {terms : List Term} {v w : ℕ} {old mid new : List Summand} {first second : (ℕ → ℕ) → ℕ} → w ≡ v → Collects terms v old mid first → Collects terms w mid new second
     → Collects terms v old new (λ inputs. first inputs + second inputs)
@@ -200,7 +187,7 @@ pub Collects-pair : (terms : List Term) (width : ℕ) → width ≤ 128 → (old
     → Collects terms width old new (λ inputs. c * (number_at terms inputs a.0 * number_at terms inputs b.0))
 Collects-pair terms width few old new c a b product is adds =
     Collects-as (λ inputs. c * (number_at terms inputs a.0 * number_at terms inputs b.0)) (Collects-Adds terms width few adds) (λ inputs.
-      congruent_same width _ _ (ap (λ k. c * k) (is (number_at terms inputs))))
+    congruent_same width _ _ (ap (λ k. c * k) (is (number_at terms inputs))))
 
 -- two sums multiplied, at widths that are one
 pub Collects-multiplied_at : (terms : List Term) (v w : ℕ) → v ≤ 128 → w ≡ v → {old new first second none other : List Summand} (c : ℕ) (a b : TermId)

@@ -1,6 +1,6 @@
 -- Laws of numbers that are one when cut to a width.
 use Rattle.std.proofs.Common.{◌≡◌, ℕ, ◌+◌, ◌-◌, ◌*◌, ◌/◌, ◌%◌, ◌^◌, ◌<◌, ◌≤◌, ap, sym, ◌∙◌, refl, arith}
-use Rattle.std.proofs.Math.Nat.{mul_comm, mod-lt, mod-add-mod, add-mod-mod, mul-mod_left, mod-eq_of_lt, zero-mod, div-add-mod'}
+use Rattle.std.proofs.Math.Nat.{mod-lt, mod-add-mod, add-mod-mod, mul-mod_left, mod-eq_of_lt, zero-mod, div-add-mod'}
 use Rattle.std.proofs.lemmas.Nat.{pow_pos, mul-mod_first, mul-mod_second}
 use Rattle.word_bits.proofs.Cuts.{mod_mod_power}
 use Rattle.sym_terms.specs.Sums.{AreCongruent}

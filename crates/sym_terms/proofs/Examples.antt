@@ -1,5 +1,5 @@
 -- Values of terms, by computation.
-use Rattle.std.proofs.Common.{◌≡◌, ℕ, List, [], ◌∷◌, refl, Bool, true, false}
+use Rattle.std.proofs.Common.{◌≡◌, ℕ, List, [], ◌∷◌, refl, true}
 use Rattle.word_bits.specs.declared.word.Word.{Word}
 use Rattle.sym_terms.specs.declared.term.Term.{Term}
 use Rattle.sym_terms.specs.declared.term.Term.TheVariants.{Constant, Input, Apply, Cast, Choose, Slice}

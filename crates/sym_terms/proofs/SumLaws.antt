@@ -9,7 +9,7 @@ use Rattle.word_bits.proofs.Cuts.{greatest_is}
 use Rattle.sym_terms.specs.declared.sums.Product.{Product}
 use Rattle.sym_terms.specs.declared.sums.Summand.{Summand}
 use Rattle.sym_terms.specs.Sums.{product_value, summand_value, sum_value, AreCongruent, IsProduct, IsPlace, Adds, IsNothing}
-use Rattle.sym_terms.proofs.Congruences.{congruent_same, congruent_turned, congruent_through, congruent-cut, congruent-sum, congruent-sum_first, congruent-sum_second, congruent-product, congruent-product_second, congruent_less}
+use Rattle.sym_terms.proofs.Congruences.{congruent_same, congruent_through, congruent-cut, congruent-sum, congruent-sum_first, congruent-sum_second, congruent-product, congruent-product_second, congruent_less}
 
 pub sum_value-cons : (values : ℕ → ℕ) (x : Summand) (xs : List Summand) → sum_value values (x ∷ xs) ≡ summand_value values x + sum_value values xs
 unfolding sum_value
@@ -65,24 +65,14 @@ pub Adds-product : {old new : List Summand} (whole product : Product) (coefficie
     → Adds old new (λ values. coefficient * product_value values product * summand_value values summand)
 Adds-product whole product coefficient summand is adds =
     Adds-as (λ values. coefficient * product_value values product * summand_value values summand) adds (λ values.
-      let p = product_value values product in
-      let q = product_value values summand.product in
-      let cut : AreCongruent 128 ((coefficient * summand.coefficient) % 2 ^ 128 * product_value values whole) (coefficient * summand.coefficient * (p * q)) =
-      congruent-product (congruent-cut 128 (coefficient * summand.coefficient)) (congruent_same 128 _ _ (is.value_is values)) in
-      congruent_through cut (congruent_same 128 _ _ (form coefficient summand.coefficient p q)))
+    let p = product_value values product in
+    let q = product_value values summand.product in
+    let cut : AreCongruent 128 ((coefficient * summand.coefficient) % 2 ^ 128 * product_value values whole) (coefficient * summand.coefficient * (p * q)) =
+    congruent-product (congruent-cut 128 (coefficient * summand.coefficient)) (congruent_same 128 _ _ (is.value_is values)) in
+    congruent_through cut (congruent_same 128 _ _ (form coefficient summand.coefficient p q)))
   where
     form : (c s p q : ℕ) → c * s * (p * q) ≡ c * p * (s * q)
     form c s p q = omega arith
-
--- a summand that is taken no times
-pub Adds-none : (xs : List Summand) (product : Product) (coefficient : ℕ) (summand : Summand) → summand.coefficient ≡ 0 → Adds xs xs (λ values. coefficient * product_value values product * summand_value values summand)
-Adds-none xs product coefficient summand e = Adds-nothing xs _ (λ values. none (coefficient * product_value values product) summand.coefficient (product_value values summand.product) e)
-  where
-    none : (c s q : ℕ) → s ≡ 0 → c * (s * q) ≡ 0
-    none c s q e = ap (λ k. c * (k * q)) e ∙ zero c q
-      where
-        zero : (c q : ℕ) → c * (0 * q) ≡ 0
-        zero c q = omega arith
 
 -- a list of summands, the first and the rest
 pub Adds-all_empty : (xs : List Summand) (product : Product) (coefficient : ℕ) → Adds xs xs (λ values. coefficient * product_value values product * sum_value values [])
@@ -97,8 +87,8 @@ pub Adds-all_cons : {old mid new : List Summand} (product : Product) (coefficien
     → Adds old new (λ values. coefficient * product_value values product * sum_value values (x ∷ xs))
 Adds-all_cons product coefficient x xs one two =
     Adds-as (λ values. coefficient * product_value values product * sum_value values (x ∷ xs)) (Adds-both one two) (λ values.
-      congruent_same 128 _ _ (form (coefficient * product_value values product) (summand_value values x) (sum_value values xs)
-      ∙ ap (λ k. coefficient * product_value values product * k) (sym (sum_value-cons values x xs))))
+    congruent_same 128 _ _ (form (coefficient * product_value values product) (summand_value values x) (sum_value values xs)
+    ∙ ap (λ k. coefficient * product_value values product * k) (sym (sum_value-cons values x xs))))
   where
     form : (c x y : ℕ) → c * x + c * y ≡ c * (x + y)
     form c x y = omega arith
@@ -116,8 +106,8 @@ pub Adds-product_cons : {old mid new : List Summand} (coefficient : ℕ) (x : Su
     → Adds old new (λ values. coefficient * (sum_value values (x ∷ xs) * sum_value values second))
 Adds-product_cons coefficient x xs second one two =
     Adds-as (λ values. coefficient * (sum_value values (x ∷ xs) * sum_value values second)) (Adds-both one two) (λ values.
-      congruent_same 128 _ _ (form coefficient (summand_value values x) (sum_value values xs) (sum_value values second)
-      ∙ ap (λ k. coefficient * (k * sum_value values second)) (sym (sum_value-cons values x xs))))
+    congruent_same 128 _ _ (form coefficient (summand_value values x) (sum_value values xs) (sum_value values second)
+    ∙ ap (λ k. coefficient * (k * sum_value values second)) (sym (sum_value-cons values x xs))))
   where
     form : (c x r s : ℕ) → c * (x * s) + c * (r * s) ≡ c * ((x + r) * s)
     form c x r s = omega arith
@@ -128,22 +118,14 @@ pub Adds-times : {old new : List Summand} (coefficient : ℕ) (one : Summand) (x
     → Adds old new (λ values. coefficient * (summand_value values one * sum_value values xs))
 Adds-times coefficient one xs adds =
     Adds-as (λ values. coefficient * (summand_value values one * sum_value values xs)) adds (λ values.
-      let p = product_value values one.product in
-      let s = sum_value values xs in
-      let cut : AreCongruent 128 ((coefficient * one.coefficient) % 2 ^ 128 * p * s) (coefficient * one.coefficient * p * s) =
-      congruent-product_second s (congruent-product_second p (congruent-cut 128 (coefficient * one.coefficient))) in
-      congruent_through cut (congruent_same 128 _ _ (form coefficient one.coefficient p s)))
+    let p = product_value values one.product in
+    let s = sum_value values xs in
+    let cut : AreCongruent 128 ((coefficient * one.coefficient) % 2 ^ 128 * p * s) (coefficient * one.coefficient * p * s) =
+    congruent-product_second s (congruent-product_second p (congruent-cut 128 (coefficient * one.coefficient))) in
+    congruent_through cut (congruent_same 128 _ _ (form coefficient one.coefficient p s)))
   where
     form : (c x p s : ℕ) → c * x * p * s ≡ c * (x * p * s)
     form c x p s = omega arith
-
--- a summand that is taken no times, times a sum
-pub Adds-times_none : (old : List Summand) (coefficient : ℕ) (one : Summand) (xs : List Summand) → one.coefficient ≡ 0
-    → Adds old old (λ values. coefficient * (summand_value values one * sum_value values xs))
-Adds-times_none old coefficient one xs e = Adds-nothing old _ (λ values. ap (λ k. coefficient * (k * product_value values one.product * sum_value values xs)) e ∙ none coefficient (product_value values one.product) (sum_value values xs))
-  where
-    none : (c p s : ℕ) → c * (0 * p * s) ≡ 0
-    none c p s = omega arith
 
 -- a list by its first element and the rest, as the code takes it apart
 pub first_rest : (P : List Summand → Type 0) (xs : List Summand) (d : Summand) → 1 ≤ length xs → P (get_or xs 0 d ∷ take (length xs - 1) (drop 1 xs)) → P xs

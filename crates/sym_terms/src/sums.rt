@@ -155,7 +155,11 @@ impl Sum {
         if one.coefficient == 0 {
             return true;
         }
-        self.add_all(one.product, coefficient.wrapping_mul(one.coefficient), summands)
+        self.add_all(
+            one.product,
+            coefficient.wrapping_mul(one.coefficient),
+            summands,
+        )
     }
 
     /// Adds the product of two sums, as often as the coefficient says.

@@ -1,6 +1,6 @@
 use Rattle.std.proofs.Common.{List, ℕ, ◌*◌, refl}
 use Rattle.sym_terms.specs.declared.sums.Summand.{Summand}
-use Rattle.sym_terms.specs.Sums.{Adds, product_value, sum_value}
+use Rattle.sym_terms.specs.Sums.{Adds, sum_value}
 use Rattle.sym_terms.proofs.SumLaws.{Adds-product_empty, Adds-product_cons, first_rest, empty_list}
 use Rattle.sym_terms.proofs.sums.Sum.+add_product.Goals as goal
 

@@ -1,4 +1,4 @@
-use Rattle.sym_terms.proofs.SumLaws.{Adds-none, Adds-product}
+use Rattle.sym_terms.proofs.SumLaws.{Adds-product}
 use Rattle.sym_terms.proofs.sums.Sum.add_multiple.Goals as goal
 
 pub returns-in-Some : goal.returns-in-Some

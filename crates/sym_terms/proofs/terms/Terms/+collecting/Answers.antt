@@ -1,7 +1,6 @@
-use Rattle.std.proofs.Common.{◌≡◌, ◌<◌, ◌≤◌, ◌+◌, ◌*◌, length, ℕ, ap, sym, ◌∙◌, refl, subst, arith}
+use Rattle.std.proofs.Common.{◌≡◌, ◌<◌, length, ℕ, ap, sym, ◌∙◌, refl, subst, arith}
 use Rattle.std.specs.Prelude.{slice_get, Some}
 use Rattle.word_bits.specs.Words.{IsWidth}
-use Rattle.sym_terms.specs.declared.term.Term.{Term}
 use Rattle.sym_terms.specs.declared.term.Term.TheVariants.{Apply}
 use Rattle.sym_terms.specs.declared.term.TermOp.{TermOp}
 use Rattle.sym_terms.specs.declared.term.TermOp.TheVariants.{Add, Sub, Mul, Neg, Shl}
@@ -102,7 +101,7 @@ collect-returns-in_default t c =
 
 pub collect_both-returns : goal.collect_both-returns
 collect_both-returns t c =
-    λ found. Collects-both_at c.requires.one_width (c.if-not-collect.ensures refl) (c.collect.ensures found)
+    λ found. Collects-both_at c.requires.one_width (c.if-not-collect.ensures refl) (c.collect-2.ensures found)
 
 pub collect_product-returns-in-None : goal.collect_product-returns-in-None
 collect_product-returns-in-None t c =
