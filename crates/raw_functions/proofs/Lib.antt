@@ -1,3 +1,4 @@
+pub mod Joining
 pub mod Limiting
 pub mod Meaning
 pub mod Moving

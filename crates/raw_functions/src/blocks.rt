@@ -2,7 +2,7 @@ ghost use Rattle.std.specs.Prelude.{◌≡◌, ◌++◌, [], IfOk, OnOk};
 ghost use Rattle.raw_functions.specs.Meant.{block_of, blocks_among, blocks_of, kept_before, kept_of, next_of, terminator_of};
 ghost use Rattle.raw_functions.specs.Steps.{HasNumbers, is_number, kept_block};
 
-use crate::moves::into_vec;
+use crate::moves::{both, ended, into_vec, push_made, with};
 use indexmap::IndexSet;
 use mir_grammar::{Ending, Limited, RawBlock, Target};
 use mir_ir::{Block, Statement, Terminator};
@@ -94,8 +94,21 @@ fn kept_of(
     Ok(Items::from_vec(kept))
 }
 
-fn block_of(alloc: Global, edges: &IndexSet<u32>, block: RawBlock) -> Result<Block, NoMemory>
-    ensures { IfOk result (λ made. made ≡ block_of (is_number edges.now.keys) block) }
+/// The statements of a block.
+fn statements_of(
+    alloc: Global,
+    statements: Items<Limited<Option<Statement>>>,
+) -> Result<Items<Statement>, NoMemory>
+    ensures { IfOk result (λ kept. kept ≡ kept_of statements) }
+{
+    let statements = into_vec(alloc, statements)?;
+    let kept = kept_of(alloc, statements)?;
+    Ok(kept)
+}
+
+/// What a block has that is meant: its number, its statements as they are written, and what ends it.
+fn parts_of(block: RawBlock) -> (BlockId, Items<Limited<Option<Statement>>>, Ending)
+    ensures { result ≡ (block.id, block.statements, block.ending.value) }
 {
     let RawBlock {
         id,
@@ -103,9 +116,15 @@ fn block_of(alloc: Global, edges: &IndexSet<u32>, block: RawBlock) -> Result<Blo
         ending,
         ..
     } = block;
-    let terminator = terminator_of(edges, ending_of(ending));
-    let statements = into_vec(alloc, statements)?;
-    let statements = kept_of(alloc, statements)?;
+    (id, statements, ending_of(ending))
+}
+
+fn block_of(alloc: Global, edges: &IndexSet<u32>, block: RawBlock) -> Result<Block, NoMemory>
+    ensures { IfOk result (λ made. made ≡ block_of (is_number edges.now.keys) block) }
+{
+    let (id, statements, ending) = parts_of(block);
+    let statements = statements_of(alloc, statements);
+    let (terminator, statements) = with(terminator_of(edges, ending), statements)?;
     Ok(Block {
         id,
         statements,
@@ -123,10 +142,10 @@ fn push_block(
     ensures { OnOk result (made.new.items ≡ made.old.items ++ kept_block (is_number edges.now.keys) block) }
 {
     if block.is_cleanup {
+        ended(block);
         return Ok(());
     }
-    let block = block_of(alloc, edges, block)?;
-    made.push(block)?;
+    push_made(made, block_of(alloc, edges, block))?;
     Ok(())
 }
 
@@ -149,8 +168,8 @@ fn blocks_among(
 pub fn blocks_of(alloc: Global, blocks: Items<RawBlock>) -> Result<Items<Block>, NoMemory>
     ensures { IfOk result (λ made. made ≡ blocks_of blocks) }
 {
-    let edges = cleanup_numbers(alloc, blocks.as_slice())?;
-    let blocks = into_vec(alloc, blocks)?;
+    let edges = cleanup_numbers(alloc, blocks.as_slice());
+    let (edges, blocks) = both(edges, into_vec(alloc, blocks))?;
     let made = blocks_among(alloc, &edges, blocks)?;
     Ok(Items::from_vec(made))
 }

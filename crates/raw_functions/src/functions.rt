@@ -3,7 +3,7 @@ ghost use Rattle.raw_functions.specs.Meant.{function_at, functions_of};
 
 use crate::blocks::blocks_of;
 use crate::locals::{all_locals, type_of};
-use crate::moves::into_vec;
+use crate::moves::{both, ended, into_vec, push_made, with};
 use crate::places::place_from;
 use mir_grammar::{Named, RawFunction};
 use mir_ir::Function;
@@ -15,8 +15,9 @@ use vk_core::{Name, NoMemory, TextPlace};
 fn name_of(alloc: Global, named: Named) -> Result<Name, NoMemory>
     ensures { IfOk result (λ name. name ≡ named.text) }
 {
-    let Named { text, .. } = named;
-    let name = Name::from_bytes(alloc, text.as_slice())?;
+    let name = Name::from_bytes(alloc, named.text.as_slice());
+    ended(named);
+    let name = name?;
     Ok(name)
 }
 
@@ -41,11 +42,12 @@ fn function_at(alloc: Global, place: TextPlace, function: RawFunction) -> Result
         items,
         blocks,
     } = function;
-    let name = name_of(alloc, name)?;
-    let count = count_of(parameters.len())?;
+    let count = count_of(parameters.len());
     let returned = type_of(returned);
-    let locals = all_locals(alloc, parameters, &returned, items)?;
-    let blocks = blocks_of(alloc, blocks)?;
+    let locals = all_locals(alloc, parameters, &returned, items);
+    let signature = both(name_of(alloc, name), with(returned, count));
+    let body = both(locals, blocks_of(alloc, blocks));
+    let ((name, (returned, count)), (locals, blocks)) = both(signature, body)?;
     Ok(Function {
         name,
         place,
@@ -73,7 +75,7 @@ pub fn functions_of(
         let start = function.name.start;
         place = place_from(text, from, place, start);
         from = start;
-        functions.push(function_at(alloc, place, function)?)?;
+        push_made(&mut functions, function_at(alloc, place, function))?;
     }
     Ok(Items::from_vec(functions))
 }
